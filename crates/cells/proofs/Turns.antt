@@ -1,0 +1,63 @@
+-- The turns of a loop that sets a cell to t, one byte a turn: after i of them, the first i bytes of t are put.
+use mathlib.Core.Path.{_≡_, refl, sym, ap, ap₂, _∙_}
+use mathlib.Core.Logic.{_⊎_, inl, inr, ⊎-elim}
+use mathlib.Core.List.{List, [], _∷_}
+use Prim.Native.Nat.{ℕ, zero, suc, _+_, _≤_, _<_}
+use native.Mathlib.Nat.{not-suc-le-zero, le-of-suc-le-suc, suc-add, zero-add}
+use native.Mathlib.Numerals.{add-one}
+use native.Mathlib.Omega.{arith}
+use lib.Bits.{bitXor}
+use lib.ListN.{length, getD, set, take}
+use lib.Seq.{take-all, length-take-le}
+use Rattle.cells.specs.Cell.{cell, put}
+use Rattle.cells.specs.Xor.{xorBytes}
+use Rattle.cells.proofs.Xors.{length-xor, getD-xor}
+use Rattle.cells.proofs.Cells.{put-none, getD-put-out, length-cell, getD-cell}
+
+put-suc : (s : List ℕ) (at : ℕ) (t : List ℕ) (i : ℕ) → i < length t → set (put s at (take i t)) (at + i) (getD t i 0) ≡ put s at (take (suc i) t)
+unfolding put
+put-suc [] at t i h = refl
+put-suc (x ∷ s) (suc at) t i h = rw (suc-add at i) (ap (λ (r : List ℕ). x ∷ r) (put-suc s at t i h))
+put-suc (x ∷ s) zero [] i h = absurd (not-suc-le-zero h)
+put-suc (x ∷ s) zero (y ∷ t) zero h = ap (λ (r : List ℕ). y ∷ r) (put-none s zero)
+put-suc (x ∷ s) zero (y ∷ t) (suc i) h =
+    rw (zero-add (suc i)) (ap (λ (r : List ℕ). y ∷ r) (rw (zero-add i) at (put-suc s zero t i (le-of-suc-le-suc h))))
+
+-- one turn: the byte that it stores is byte i of t
+pub put-more : (s : List ℕ) (at : ℕ) (t : List ℕ) (i : ℕ) (l : List ℕ) (v : ℕ) → i < length t → l ≡ put s at (take i t) → v ≡ getD t i 0
+    → set l (at + i) v ≡ put s at (take (i + 1) t)
+put-more s at t i l v h e w =
+    ap₂ (λ (r : List ℕ) (x : ℕ). set r (at + i) x) e w ∙ put-suc s at t i h ∙ ap (λ (n : ℕ). put s at (take n t)) (sym (add-one i))
+
+-- the end
+pub put-all : (s : List ℕ) (at : ℕ) (t : List ℕ) (i : ℕ) (l : List ℕ) → length t ≤ i → l ≡ put s at (take i t) → l ≡ put s at t
+put-all s at t i l h e = e ∙ ap (put s at) (take-all i t h)
+
+-- where t is the XOR of two cells of p bytes
+pub length-two : (s u : List ℕ) (a b p : ℕ) → a + p ≤ length s → b + p ≤ length u → length (xorBytes (cell s a p) (cell u b p)) ≡ p
+length-two s u a b p ha hb =
+    length-xor (cell s a p) (cell u b p) (length-cell s a p ha ∙ sym (length-cell u b p hb)) ∙ length-cell s a p ha
+
+pub byte-two : (s u : List ℕ) (a b p i : ℕ) → i < p → a + p ≤ length s → b + p ≤ length u
+    → bitXor (getD s (a + i) 0) (getD u (b + i) 0) ≡ getD (xorBytes (cell s a p) (cell u b p)) i 0
+byte-two s u a b p i h ha hb =
+    sym (getD-xor (cell s a p) (cell u b p) i (length-cell s a p ha ∙ sym (length-cell u b p hb))
+    ∙ ap₂ bitXor (getD-cell s a p i h) (getD-cell u b p i h))
+
+-- where it is the XOR of a cell and of c
+pub length-one : (s : List ℕ) (from : ℕ) (c : List ℕ) → from + length c ≤ length s → length (xorBytes (cell s from (length c)) c) ≡ length c
+length-one s from c h = length-xor (cell s from (length c)) c (length-cell s from (length c) h) ∙ length-cell s from (length c) h
+
+pub byte-one : (s : List ℕ) (from : ℕ) (c : List ℕ) (i : ℕ) → i < length c → from + length c ≤ length s
+    → bitXor (getD s (from + i) 0) (getD c i 0) ≡ getD (xorBytes (cell s from (length c)) c) i 0
+byte-one s from c i h l =
+    sym (getD-xor (cell s from (length c)) c i (length-cell s from (length c) l)
+    ∙ ap (λ (x : ℕ). bitXor x (getD c i 0)) (getD-cell s from (length c) i h))
+
+-- a byte of the source cell is not set before it is read: it lies before the cell that is set, or at or past the byte of this turn
+pub not-yet : (s : List ℕ) (at : ℕ) (t : List ℕ) (i : ℕ) (l : List ℕ) (from n : ℕ) → i < n → n ≤ length t → l ≡ put s at (take i t)
+    → (from + n ≤ at) ⊎ (at ≤ from) → getD l (from + i) 0 ≡ getD s (from + i) 0
+not-yet s at t i l from n h k e out =
+    let m : length (take i t) ≡ i = length-take-le i t (omega arith) in
+    ap (λ (r : List ℕ). getD r (from + i) 0) e
+    ∙ getD-put-out s at (take i t) (from + i) (⊎-elim (λ o. inl (omega arith)) (λ o. inr (omega arith)) out)

@@ -1,0 +1,15 @@
+-- Cells. A store is a list of bytes; a cell is what lies at a place of it.
+use mathlib.Core.List.{List, [], _∷_}
+use Prim.Native.Nat.{ℕ, zero, suc}
+use lib.ListN.{take, drop}
+
+-- The cell of p bytes at index at of the store s.
+abbrev pub cell : List ℕ → ℕ → ℕ → List ℕ
+cell s at p = take p (drop at s)
+
+-- The store s with c in the place of its bytes from index at on. It keeps its length: what would run past its end is left out.
+unfoldable pub put : List ℕ → ℕ → List ℕ → List ℕ
+put [] at c = []
+put (x ∷ s) (suc at) c = x ∷ put s at c
+put (x ∷ s) zero [] = x ∷ s
+put (x ∷ s) zero (y ∷ c) = y ∷ put s zero c
