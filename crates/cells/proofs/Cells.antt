@@ -2,7 +2,7 @@
 use mathlib.Core.Path.{_≡_, refl, sym, ap, _∙_}
 use mathlib.Core.Logic.{_⊎_, ⊎-elim}
 use mathlib.Core.List.{List, [], _∷_}
-use Prim.Native.Nat.{ℕ, zero, suc, _+_, _≤_, _<_}
+use Prim.Native.Nat.{ℕ, zero, suc, _+_, _-_, _≤_, _<_}
 use native.Mathlib.Nat.{not-suc-le-zero, le-of-suc-le-suc, suc-add, zero-add}
 use native.Mathlib.Omega.{arith}
 use lib.ListN.{length, getD, take, drop, length-drop}
@@ -57,6 +57,10 @@ length-cell s at p h = length-take-le p (drop at s) (rw length-drop (omega arith
 
 pub getD-cell : (s : List ℕ) (at p j : ℕ) → j < p → getD (cell s at p) j 0 ≡ getD s (at + j) 0
 getD-cell s at p j h = getD-take p (drop at s) j 0 h ∙ getD-drop at s j 0
+
+-- the part of a slice that is lent from index at to at + p
+pub cell-part : (s : List ℕ) (at p : ℕ) → take (at + p - at) (drop at s) ≡ cell s at p
+cell-part s at p = let e : at + p - at ≡ p = omega arith in rw e
 
 pub cell-put : (s : List ℕ) (at : ℕ) (c : List ℕ) (p : ℕ) → length c ≡ p → at + p ≤ length s → cell (put s at c) at p ≡ c
 cell-put s at c p e h =

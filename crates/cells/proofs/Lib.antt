@@ -3,3 +3,4 @@ pub mod Digits
 pub mod Xors
 pub mod Cells
 pub mod Turns
+pub mod Steps

@@ -1,0 +1,11 @@
+-- `simplex::the_limit` meets its contract: the limit, and that it is met.
+use Rattle.simplex.proofs.Limit.{the-limit}
+use Rattle.simplex.proofs.Tight.{met}
+use Rattle.simplex.proofs.the_limit.Statement.{statement}
+use Rattle.simplex.proofs.the_limit.Tie as tie
+
+returns : tie.Need-returns
+returns c = (the-limit, met)
+
+pub the-limit-spec : {M : Type 1} → statement M
+the-limit-spec = tie.close (tie.spec returns)

@@ -1,0 +1,32 @@
+-- The laws of the code, for every K and every P.
+use mathlib.Core.Path.{_≡_}
+use mathlib.Core.List.{List, []}
+use Prim.Native.Nat.{ℕ, zero, suc, _+_, _%_, _^_, _≤_, _<_}
+use lib.Bits.{bitXor}
+use lib.ListN.{length, getD}
+use Rattle.cells.specs.Xor.{xorBytes}
+use Rattle.simplex.specs.Shape.{banksOf, limitOf, degreeOf}
+use Rattle.simplex.specs.Code.{Packet, Sized, Content, Banks, bankCell, Yields}
+use Rattle.simplex.specs.Limit.{Fails}
+use Rattle.simplex.specs.Filling.{filled, Room, Holds}
+
+-- How many of the banks 1 to n have odd degree.
+abbrev pub oddBanks : ℕ → ℕ
+oddBanks zero = 0
+oddBanks (suc n) = degreeOf (suc n) % 2 + oddBanks n
+
+-- linear: the XOR of the cells of banks a and b is the cell of a XOR b.
+-- two: if a XOR b = 2^i, the two cells XOR to packet i. alone: bank 2^i by itself is packet i.
+-- odd: exactly 2^(K-1) of the banks have odd degree.
+-- fails: a set of banks that fails a symbol does not yield it.
+-- holds: a group's banks put into a store hold what the code says, and no other byte is changed.
+pub record TheCode : Type 0 where
+  pub linear : (K P : ℕ) (packets : List Packet) → Content K P packets → (a b : ℕ)
+      → xorBytes (bankCell P packets a) (bankCell P packets b) ≡ bankCell P packets (bitXor a b)
+  pub two : (K P : ℕ) (packets : List Packet) → Content K P packets → (i a b : ℕ) → i < K → bitXor a b ≡ 2 ^ i
+      → xorBytes (bankCell P packets a) (bankCell P packets b) ≡ getD packets i []
+  pub alone : (K P : ℕ) (packets : List Packet) → Content K P packets → (i : ℕ) → i < K → bankCell P packets (2 ^ i) ≡ getD packets i []
+  pub odd : (K : ℕ) → 1 ≤ K → oddBanks (banksOf K) ≡ limitOf K
+  pub fails : (K P : ℕ) (banks : Banks) (i : ℕ) → Fails K P banks i → Yields K P banks i → ⊥
+  pub holds : (P : ℕ) (packets : List Packet) (place : ℕ → ℕ) (n : ℕ) (s : List ℕ) → Sized P packets → Room P place n (length s)
+      → Holds P packets place n s (filled P packets place n s)

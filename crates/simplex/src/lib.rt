@@ -1,0 +1,98 @@
+// The code of a group of K symbols: its shape, its limit, and the filling of its banks.
+ghost use mathlib.Core.Path.{_≡_};
+ghost use Prim.Native.Nat.{suc, _+_, _*_, _≤_};
+ghost use lib.ListN.{length};
+ghost use Rattle.cells.specs.Cell.{put};
+ghost use Rattle.simplex.specs.Shape.{Symbols, banksOf, groupOf, degreeOf};
+ghost use Rattle.simplex.specs.Limit.{TheLimit, LimitMet};
+ghost use Rattle.simplex.specs.Laws.{TheCode};
+ghost use Rattle.simplex.specs.Filling.{packetsOf, filled, spaced, Fillable};
+ghost use Rattle.simplex.specs.Running.{doubled};
+
+// The bounds of K.
+pub const LEAST_SYMBOLS: usize = 2;
+
+pub const MOST_SYMBOLS: usize = 5;
+
+// What K fixes: the banks of a group, and the most reads that it serves in a cycle.
+pub struct Group {
+    pub banks: usize,
+    pub limit: usize,
+}
+
+// The fixed table, by K from LEAST_SYMBOLS to MOST_SYMBOLS.
+const GROUPS: [Group; 4] = [
+    Group { banks: 3, limit: 2 },
+    Group { banks: 7, limit: 4 },
+    Group {
+        banks: 15,
+        limit: 8,
+    },
+    Group {
+        banks: 31,
+        limit: 16,
+    },
+];
+
+pub fn group_of(k: usize) -> Group
+    requires { ⌜ Symbols k ⌝ }
+    ensures { λ r. ⌜ r ≡ groupOf k ⌝ }
+{
+    GROUPS[k - LEAST_SYMBOLS]
+}
+
+// The degree of a bank.
+pub fn degree(bank: u32) -> u32
+    ensures { λ r. ⌜ r ≡ degreeOf bank ⌝ }
+{
+    u32::count_ones(bank)
+}
+
+// Carries the laws of the code. It does nothing.
+pub fn the_code()
+    ensures { λ _. ⌜ TheCode ⌝ }
+{}
+
+// Carries the limit of the code, and that it is met. It does nothing.
+pub fn the_limit()
+    ensures limit { λ _. ⌜ TheLimit ⌝ }
+    ensures met { λ _. ⌜ LimitMet ⌝ }
+{}
+
+// With banks 1 to `t` of a group in place, bank 1 at `at` and each `step` after the one before: the next symbol's packet goes into bank
+// t + 1, at `to`, and each of the `t` banks XOR it into the bank t + 1 further on. Gives the place after the last.
+fn add_symbol(store: &mut [u8], at: usize, to: usize, step: usize, t: usize, packet: &[u8]) -> usize
+    requires { ⌜ to ≡ spaced at step (suc t) ⌝ }
+    requires { ⌜ (length (now packet) ≤ step) × (step ≤ length (now store)) × (to + t * step + length (now packet) ≤ length (now store)) ⌝ }
+    ensures { λ r. ⌜ (r ≡ to + step + t * step) × (now (store .exit) ≡ doubled (now (packet .entry)) (spaced at step) t t (put (now (store .entry)) to (now (packet .entry)))) ⌝ }
+{
+    cells::copy_into(store, to, packet);
+    let mut n = 0;
+    let mut from = at;
+    let mut next = to + step;
+    while n < t {
+        cells::xor_from(store, next, from, packet);
+        from += step;
+        next += step;
+        n += 1;
+    }
+    next
+}
+
+// Fills one group's banks in one row of `store` from its `k` packets of `p` bytes: bank 1 at `at`, each bank `step` after the one before.
+// Each symbol's packet is stored once, and every other bank comes from a cell that is already written.
+pub fn fill_group(store: &mut [u8], at: usize, step: usize, packets: &[u8], p: usize, k: usize)
+    requires { ⌜ Fillable k p at step (now packets) (now store) ⌝ }
+    ensures { λ _. ⌜ now (store .exit) ≡ filled p (packetsOf p k (now (packets .entry))) (spaced at step) (banksOf k) (now (store .entry)) ⌝ }
+{
+    let mut h = 0;
+    let mut t = 0;
+    let mut to = at;
+    let mut q = 0;
+    while h < k {
+        to = add_symbol(store, at, to, step, t, &packets[q..q + p]);
+        t = t + t + 1;
+        q += p;
+        h += 1;
+    }
+}
