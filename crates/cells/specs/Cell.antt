@@ -3,7 +3,7 @@ use mathlib.Core.List.{List, [], _∷_}
 use Prim.Native.Nat.{ℕ, zero, suc}
 use lib.ListN.{take, drop}
 
--- The cell of p bytes at index at of the store s.
+-- The cell at index at of the store s: p bytes, or fewer where the store ends.
 abbrev pub cell : List ℕ → ℕ → ℕ → List ℕ
 cell s at p = take p (drop at s)
 

@@ -11,7 +11,7 @@ use lib.ListN.{length, getD, length-replicate}
 use Rattle.cells.specs.Xor.{xorBytes, zeros, xorAll}
 use Rattle.cells.proofs.Digits.{digit, low-lt, xor-half, xor-low}
 use Rattle.cells.proofs.Xors.{assoc, left-comm, cancel, zeros-right, same-bytes, length-xor}
-use Rattle.simplex.specs.Code.{Packet, Sized, Content, bit, keepIf, chosen, bankCell, Banks, xorOfBanks, Yields}
+use Rattle.simplex.specs.Code.{Packet, Sized, Content, bit, keepIf, chosen, bankCell, Banks, xorOfBanks, xorOfNumbers, Yields}
 
 pub sized-at : (P : ℕ) (packets : List Packet) (i : ℕ) → i < length packets → Sized P packets → length (getD packets i []) ≡ P
 sized-at P [] i l h = absurd (not-suc-le-zero l)
@@ -96,11 +96,6 @@ module _ (K P : ℕ) (packets : List Packet) (c : Content K P packets) where
 
   pub two : (i a b : ℕ) → i < K → bitXor a b ≡ 2 ^ i → xorBytes (bankCell P packets a) (bankCell P packets b) ≡ getD packets i []
   two i a b l e = linear P packets a b (c .sized) ∙ ap (bankCell P packets) e ∙ alone i l
-
--- the XOR of the numbers of a set's banks
-abbrev pub xorOfNumbers : Banks → ℕ
-xorOfNumbers [] = 0
-xorOfNumbers (b ∷ banks) = bitXor b (xorOfNumbers banks)
 
 pub set-linear : (P : ℕ) (packets : List Packet) (banks : Banks) → Sized P packets → xorOfBanks P packets banks ≡ bankCell P packets (xorOfNumbers banks)
 set-linear P packets [] h = sym (cell-zero P packets)

@@ -9,8 +9,9 @@ use lib.ListN.{length, getD, take, drop, length-drop}
 use lib.Seq.{length-take-le, drop-drop}
 use Rattle.cells.specs.Cell.{cell, put}
 use Rattle.cells.proofs.Cells.{length-put, cell-put, cell-put-out, getD-put-out}
+use Rattle.simplex.specs.Shape.{banksOf}
 use Rattle.simplex.specs.Code.{Packet, Sized, bankCell}
-use Rattle.simplex.specs.Filling.{packetsOf, filled, spaced, Room, Holds}
+use Rattle.simplex.specs.Filling.{packetsOf, filled, spaced, Room, Holds, Fillable}
 use Rattle.simplex.proofs.Banks.{length-bank}
 
 -- ---- the packets of a list of bytes
@@ -106,3 +107,18 @@ spaced-room P at step n size q fits = record { within = within; rising = rising 
         let f : suc (a - 1) * step ≤ (b - 1) * step = mul-le-mul-right step (omega arith) in
         let e : suc (a - 1) * step ≡ (a - 1) * step + step = suc-mul (a - 1) step in
         omega arith
+
+-- ---- the filling of a group
+
+pub fillable-sized : (K P at step : ℕ) (packets store : List ℕ) → Fillable K P at step packets store → Sized P (packetsOf P K packets)
+fillable-sized K P at step packets store f = packets-sized P K packets (omega arith)
+
+pub fillable-room : (K P at step : ℕ) (packets store : List ℕ) → Fillable K P at step packets store
+    → Room P (spaced at step) (banksOf K) (length store)
+fillable-room K P at step packets store f = spaced-room P at step (banksOf K) (length store) (f .step-size) (f .last)
+
+pub filling-holds : (K P at step : ℕ) (packets store : List ℕ) → Fillable K P at step packets store
+    → Holds P (packetsOf P K packets) (spaced at step) (banksOf K) store (filled P (packetsOf P K packets) (spaced at step) (banksOf K) store)
+filling-holds K P at step packets store f =
+    filled-holds P (packetsOf P K packets) (spaced at step) (fillable-sized K P at step packets store f) (banksOf K) store
+    (fillable-room K P at step packets store f)

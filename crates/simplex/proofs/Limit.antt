@@ -15,7 +15,7 @@ use Rattle.cells.proofs.Digits.{low-lt}
 use Rattle.cells.proofs.Xors.{same-bytes}
 use Rattle.simplex.specs.Shape.{banksOf, limitOf, degreeOf}
 use Rattle.simplex.specs.Code.{Banks, xorOfBanks, Yields}
-use Rattle.simplex.specs.Limit.{total, readsOf, In, Apart, Fails, LimitFor, TheLimit}
+use Rattle.simplex.specs.Limit.{readsOf, In, DisjointSets, Fails, TheLimit, LimitOfReads}
 use Rattle.simplex.proofs.Parity.{allOnes, allOnes-content, cell-parity, odd-half}
 use Rattle.simplex.proofs.Pigeon.{pigeon}
 use Rattle.simplex.proofs.Requests.{length-reads}
@@ -61,18 +61,19 @@ half-below (suc k) b h l =
     omega (arith, pow-suc 2 k, pow-pos k, ap (λ (n : ℕ). 2 ^ n) less)
 
 -- more sets than the limit: one of them is blank
-blank : (K P n : ℕ) (sets : List Banks) → limitOf K < n → Apart K n sets → (j : ℕ) × (j < n) × Blank K P (getD sets j [])
-blank K P n sets many a = ⊎-elim (λ t. t) (λ odd. absurd (contra odd)) (scan K P sets below n)
+blank : (K P : ℕ) (reads : List ℕ) (sets : List Banks) → limitOf K < length reads → DisjointSets K reads sets
+    → (j : ℕ) × (j < length reads) × Blank K P (getD sets j [])
+blank K P reads sets many d = ⊎-elim (λ t. t) (λ odd. absurd (contra odd)) (scan K P sets below (length reads))
   where
     below : (j b : ℕ) → In b (getD sets j []) → b < 2 ^ K
-    below j b i = omega (arith, a .group j b i, pow-pos K)
+    below j b i = omega (arith, d .of-group j b i, pow-pos K)
 
-    contra : ((j : ℕ) → j < n → Odd (getD sets j [])) → ⊥
+    contra : ((j : ℕ) → j < length reads → Odd (getD sets j [])) → ⊥
     contra odd =
-        let few : n ≤ limitOf K =
-        pigeon (limitOf K) n (λ j h. odd j h .0 / 2)
-        (λ j h. let g = a .group j (odd j h .0) (odd j h .1) in half-below K (odd j h .0) (g .1) (g .0))
-        (λ i j h l lt e. a .apart i j (odd i h .0) lt (odd i h .1)
+        let few : length reads ≤ limitOf K =
+        pigeon (limitOf K) (length reads) (λ j h. odd j h .0 / 2)
+        (λ j h. let g = d .of-group j (odd j h .0) (odd j h .1) in half-below K (odd j h .0) (g .1) (g .0))
+        (λ i j h l lt e. d .disjoint i j (odd i h .0) lt (odd i h .1)
         (subst (λ (b : ℕ). In b (getD sets j [])) (sym (odd-half (odd i h .0) (odd j l .0) (odd i h .2) (odd j l .2) e)) (odd j l .1))) in
         omega arith
 
@@ -83,11 +84,9 @@ not-zeros zero (suc P) i h e = cons≢nil e
 not-zeros (suc K) (suc P) zero h e = let z : _≡_ {A = ℕ} 0 1 = cc in omega arith
 not-zeros (suc K) (suc P) (suc i) h e = not-zeros K (suc P) i h e
 
--- one set too many: the content whose every byte is 1 shows it
-failing : (K P n : ℕ) (reads : List ℕ) → 1 ≤ P → limitOf K < n → (sets : List Banks) → Apart K n sets
-    → (j : ℕ) × (j < n) × Fails K P (getD sets j []) (getD reads j 0)
-failing K P n reads hP many sets a =
-    let t = blank K P n sets many a in (
+pub limit-of-reads : LimitOfReads
+limit-of-reads K P reads hP sets many d =
+    let t = blank K P reads sets many d in (
       t .0,
       t .1,
       record {
@@ -97,11 +96,9 @@ failing K P n reads hP many sets a =
       },
     )
 
-pub limit-for : (K P : ℕ) (reads : List ℕ) → 1 ≤ P → LimitFor K P reads
-limit-for K P reads hP many sets a = failing K P (length reads) reads hP many sets a
-
 pub the-limit : TheLimit
-the-limit K P counts hP many sets a = failing K P (total counts) (readsOf counts) hP many sets a
+the-limit K P counts sets hP many d =
+    limit-of-reads K P (readsOf counts) hP sets (subst (λ (n : ℕ). limitOf K < n) (sym (length-reads counts)) many) d
 
 pub fails-yields : (K P : ℕ) (banks : Banks) (i : ℕ) → Fails K P banks i → Yields K P banks i → ⊥
 fails-yields K P banks i f y = f .wrong (y (f .packets) (f .content))

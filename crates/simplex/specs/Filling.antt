@@ -5,13 +5,13 @@ use mathlib.Core.List.{List, [], _∷_}
 use Prim.Native.Nat.{ℕ, zero, suc, _+_, _-_, _*_, _≤_, _<_}
 use lib.ListN.{length, getD, take, drop}
 use Rattle.cells.specs.Cell.{cell, put}
-use Rattle.simplex.specs.Shape.{Symbols, banksOf}
+use Rattle.simplex.specs.Shape.{SymbolsInRange, banksOf}
 use Rattle.simplex.specs.Code.{Packet, bankCell}
 
--- The k packets of p bytes each that stand one after the other in a list of bytes.
-unfoldable pub packetsOf : (p k : ℕ) → List ℕ → List Packet
-packetsOf p zero bytes = []
-packetsOf p (suc k) bytes = take p bytes ∷ packetsOf p k (drop p bytes)
+-- The K packets of P bytes each that stand one after the other in a list of bytes.
+unfoldable pub packetsOf : (P K : ℕ) → List ℕ → List Packet
+packetsOf P zero bytes = []
+packetsOf P (suc K) bytes = take P bytes ∷ packetsOf P K (drop P bytes)
 
 -- The store s with the cells of banks 1 to n put in, for a group of these packets: bank b at the index `place b`.
 unfoldable pub filled : ℕ → List Packet → (ℕ → ℕ) → ℕ → List ℕ → List ℕ
@@ -27,15 +27,15 @@ pub record Room (P : ℕ) (place : ℕ → ℕ) (n size : ℕ) : Type 0 where
   pub within : (b : ℕ) → 1 ≤ b → b ≤ n → place b + P ≤ size
   pub rising : (a b : ℕ) → 1 ≤ a → a < b → b ≤ n → place a + P ≤ place b
 
--- After it, each bank's cell holds what the code says, and every other byte is as it was.
+-- Of a store s and the store after banks 1 to n were put in: each bank's cell holds what the code says, and every other byte is as it was.
 pub record Holds (P : ℕ) (packets : List Packet) (place : ℕ → ℕ) (n : ℕ) (s after : List ℕ) : Type 0 where
   pub size : length after ≡ length s
   pub banks : (b : ℕ) → 1 ≤ b → b ≤ n → cell after (place b) P ≡ bankCell P packets b
   pub others : (x : ℕ) → ((b : ℕ) → 1 ≤ b → b ≤ n → (x < place b) ⊎ (place b + P ≤ x)) → getD after x 0 ≡ getD s x 0
 
--- What filling a group's banks asks: K packets of P bytes, a step of at least a cell, and room for the last bank's cell.
+-- What filling a group's banks asks: K in its range, K packets of P bytes, a step of at least a cell, and room for the last bank's cell.
 pub record Fillable (K P at step : ℕ) (packets store : List ℕ) : Type 0 where
-  pub symbols : Symbols K
+  pub symbols : SymbolsInRange K
   pub packets-size : length packets ≡ K * P
   pub step-size : P ≤ step
   pub last : spaced at step (banksOf K) + P ≤ length store

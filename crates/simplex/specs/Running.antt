@@ -1,4 +1,4 @@
--- How the banks are computed: by running XOR, one symbol more at a time.
+-- How the banks are computed: by running XOR, one symbol more at a time. No public promise cites it.
 use mathlib.Core.List.{List}
 use Prim.Native.Nat.{ℕ, zero, suc, _+_}
 use lib.ListN.{length}

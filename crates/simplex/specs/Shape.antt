@@ -10,7 +10,8 @@ leastSymbols = 2
 abbrev pub mostSymbols : ℕ
 mostSymbols = 5
 
-pub record Symbols (K : ℕ) : Type 0 where
+-- K is within them.
+pub record SymbolsInRange (K : ℕ) : Type 0 where
   pub least : leastSymbols ≤ K
   pub most : K ≤ mostSymbols
 

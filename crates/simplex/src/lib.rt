@@ -3,8 +3,8 @@ ghost use mathlib.Core.Path.{_≡_};
 ghost use Prim.Native.Nat.{suc, _+_, _*_, _≤_};
 ghost use lib.ListN.{length};
 ghost use Rattle.cells.specs.Cell.{put};
-ghost use Rattle.simplex.specs.Shape.{Symbols, banksOf, groupOf, degreeOf};
-ghost use Rattle.simplex.specs.Limit.{TheLimit, LimitMet};
+ghost use Rattle.simplex.specs.Shape.{SymbolsInRange, banksOf, groupOf, degreeOf};
+ghost use Rattle.simplex.specs.Limit.{TheLimit, LimitOfReads, LimitMet};
 ghost use Rattle.simplex.specs.Laws.{TheCode};
 ghost use Rattle.simplex.specs.Filling.{packetsOf, filled, spaced, Fillable};
 ghost use Rattle.simplex.specs.Running.{doubled};
@@ -35,7 +35,7 @@ const GROUPS: [Group; 4] = [
 ];
 
 pub fn group_of(k: usize) -> Group
-    requires { ⌜ Symbols k ⌝ }
+    requires { ⌜ SymbolsInRange k ⌝ }
     ensures { λ r. ⌜ r ≡ groupOf k ⌝ }
 {
     GROUPS[k - LEAST_SYMBOLS]
@@ -53,9 +53,10 @@ pub fn the_code()
     ensures { λ _. ⌜ TheCode ⌝ }
 {}
 
-// Carries the limit of the code, and that it is met. It does nothing.
+// Carries the limit of the code, and that it is met at K = 2. It does nothing.
 pub fn the_limit()
     ensures limit { λ _. ⌜ TheLimit ⌝ }
+    ensures reads { λ _. ⌜ LimitOfReads ⌝ }
     ensures met { λ _. ⌜ LimitMet ⌝ }
 {}
 

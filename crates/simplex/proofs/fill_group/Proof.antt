@@ -15,7 +15,7 @@ use Rattle.simplex.specs.Code.{Packet, Sized}
 use Rattle.simplex.specs.Filling.{packetsOf, filled, spaced, Room}
 use Rattle.simplex.specs.Running.{doubled}
 use Rattle.simplex.proofs.Banks.{sized-at}
-use Rattle.simplex.proofs.Filling.{length-packets, packets-sized, packet-at, filled-none, fewer, spaced-suc, spaced-twice, spaced-room}
+use Rattle.simplex.proofs.Filling.{length-packets, packet-at, filled-none, fewer, spaced-suc, spaced-twice, fillable-sized, fillable-room}
 use Rattle.simplex.proofs.Running.{raised, twice-within, pow-more}
 use Rattle.simplex.proofs.fill_group.Statement.{statement}
 use Rattle.simplex.proofs.fill_group.Tie as tie
@@ -36,10 +36,10 @@ abbrev packets : tie.Start Inv-loop μ-loop → List Packet
 packets s = packetsOf (s .args .p) (s .args .k) (now (s .args .packets))
 
 sized : (s : tie.Start Inv-loop μ-loop) → Sized (s .args .p) (packets s)
-sized s = packets-sized (s .args .p) (s .args .k) (now (s .args .packets)) (omega arith)
+sized s = fillable-sized (s .args .k) (s .args .p) (s .args .at) (s .args .step) _ _ (s .pre)
 
 room : (s : tie.Start Inv-loop μ-loop) → Room (s .args .p) (spaced (s .args .at) (s .args .step)) (banksOf (s .args .k)) (length (now (s .args .store)))
-room s = spaced-room (s .args .p) (s .args .at) (s .args .step) (banksOf (s .args .k)) _ (s .pre .step-size) (s .pre .last)
+room s = fillable-room (s .args .k) (s .args .p) (s .args .at) (s .args .step) _ _ (s .pre)
 
 -- a step fits the store: the second bank lies one after the first
 one-step : (s : tie.Start Inv-loop μ-loop) → s .args .step ≤ length (now (s .args .store))
@@ -47,15 +47,18 @@ one-step s =
     let four : 2 ^ 2 ≤ 2 ^ s .args .k = pow-mono (s .pre .symbols .least) in
     omega (arith, room s .within 2 (omega arith) (omega arith), one-mul (s .args .step))
 
+below : (c : tie.In-loop Inv-loop μ-loop) → c .before .loop .h < St c .args .k
+below c = omega arith
+
 -- in a turn: symbol h's banks are the group's, and are few; its packet is lent
 twice : (c : tie.In-loop Inv-loop μ-loop) → suc (c .before .loop .t) + c .before .loop .t ≤ banksOf (St c .args .k)
-twice c = twice-within (c .before .loop .h) (St c .args .k) (c .before .loop .t) (c .loop-test .taken) (c .before .loop .inv .1)
+twice c = twice-within (c .before .loop .h) (St c .args .k) (c .before .loop .t) (below c) (c .before .loop .inv .1)
 
 few : (c : tie.In-loop Inv-loop μ-loop) → 2 ^ c .before .loop .h ≤ 2 ^ mostSymbols
 few c = let h : c .before .loop .h ≤ mostSymbols = omega arith in pow-mono h
 
 lent : (c : tie.In-loop Inv-loop μ-loop) → c .before .loop .h * St c .args .p + St c .args .p ≤ length (now (St c .args .packets))
-lent c = omega (arith, step-within (c .before .loop .h) (St c .args .k) (St c .args .p) (c .loop-test .taken))
+lent c = omega (arith, step-within (c .before .loop .h) (St c .args .k) (St c .args .p) (below c))
 
 packet : (c : tie.In-loop Inv-loop μ-loop)
     → take (c .before .loop .q + St c .args .p - c .before .loop .q) (drop (c .before .loop .q) (now (St c .args .packets)))
@@ -64,7 +67,7 @@ packet c =
     let a = St c .args in
     let l = c .before .loop in
     cell-part (now (a .packets)) (l .q) (a .p) ∙ ap (λ (x : ℕ). cell (now (a .packets)) x (a .p)) (l .inv .3)
-    ∙ sym (packet-at (a .p) (a .k) (now (a .packets)) (l .h) (c .loop-test .taken))
+    ∙ sym (packet-at (a .p) (a .k) (now (a .packets)) (l .h) (below c))
 
 symbol : (c : tie.In-loop Inv-loop μ-loop) → c .before .loop .h < length (packets (St c))
 symbol c = omega (arith, length-packets (St c .args .p) (St c .args .k) (now (St c .args .packets)))

@@ -1,6 +1,6 @@
 -- `simplex::the_code` meets its contract: the laws of the code.
 use Rattle.simplex.proofs.Banks as banks
-use Rattle.simplex.proofs.Filling.{filled-holds}
+use Rattle.simplex.proofs.Filling.{filled-holds, filling-holds}
 use Rattle.simplex.proofs.Limit.{fails-yields}
 use Rattle.simplex.proofs.Parity.{odd-banks}
 use Rattle.simplex.proofs.the_code.Statement.{statement}
@@ -11,9 +11,11 @@ returns c = record {
   linear = λ K P packets h a b. banks.linear P packets a b (h .sized);
   two = banks.two;
   alone = banks.alone;
+  yields = banks.yields;
   odd = odd-banks;
   fails = fails-yields;
   holds = λ P packets place n s sized room. filled-holds P packets place sized n s room;
+  filling = filling-holds;
 }
 
 pub the-code-spec : {M : Type 1} → statement M
