@@ -1,6 +1,6 @@
 -- Products that a loop carries along, a step at a time.
 use mathlib.Core.Path.{_≡_, ap, _∙_}
-use Prim.Native.Nat.{ℕ, suc, _+_, _*_, _≤_, _<_}
+use Prim.Native.Nat.{ℕ, _+_, _*_, _≤_, _<_}
 use native.Mathlib.Nat.{add-mul, suc-mul, mul-le-mul-right}
 use native.Mathlib.Numerals.{add-one}
 

@@ -1,7 +1,7 @@
 -- Laws of XOR on lists of bytes.
 use mathlib.Core.Path.{_≡_, refl, sym, ap, ap₂, _∙_}
 use mathlib.Core.List.{List, [], _∷_}
-use Prim.Native.Nat.{ℕ, zero, suc, _≤_, _<_}
+use Prim.Native.Nat.{ℕ, zero, suc, _≤_}
 use native.Mathlib.Nat.{suc-inj, suc-ne-zero, le-of-suc-le-suc, not-suc-le-zero}
 use lib.Bits.{bitXor, xor-comm, xor-zero-r}
 use lib.ListN.{length, getD, replicate}

@@ -1,13 +1,13 @@
 -- Laws of a group's banks in a store: each bank's cell holds what the code says, and every other byte is as it was.
 use mathlib.Core.Path.{_≡_, refl, sym, ap, _∙_}
 use mathlib.Core.Logic.{_⊎_, inl, ⊎-elim}
-use mathlib.Core.List.{List, [], _∷_}
+use mathlib.Core.List.{List, []}
 use Prim.Native.Nat.{ℕ, zero, suc, _+_, _-_, _*_, _≤_, _<_}
 use native.Mathlib.Nat.{eq-or-lt-of-le, le-of-suc-le-suc, mul-le-mul-right, add-mul, suc-mul, zero-mul, not-suc-le-zero}
 use native.Mathlib.Omega.{arith}
 use lib.ListN.{length, getD, take, drop, length-drop}
 use lib.Seq.{length-take-le, drop-drop}
-use Rattle.cells.specs.Cell.{cell, put}
+use Rattle.cells.specs.Cell.{cell}
 use Rattle.cells.proofs.Cells.{length-put, cell-put, cell-put-out, getD-put-out}
 use Rattle.simplex.specs.Shape.{banksOf}
 use Rattle.simplex.specs.Code.{Packet, Sized, bankCell}

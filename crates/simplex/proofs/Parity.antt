@@ -1,6 +1,6 @@
 -- The parity of a bank's degree: it is what the bank holds where every byte is 1, and half of the numbers have it odd.
-use mathlib.Core.Path.{_≡_, refl, sym, ap, ap₂, _∙_}
-use mathlib.Core.List.{List, [], _∷_}
+use mathlib.Core.Path.{_≡_, refl, sym, ap, _∙_}
+use mathlib.Core.List.{List, []}
 use Prim.Native.Nat.{ℕ, zero, suc, _+_, _-_, _*_, _/_, _%_, _^_, _≤_, _<_}
 use native.Mathlib.Nat.{pow-suc}
 use native.Mathlib.Omega.{arith}
@@ -9,7 +9,7 @@ use lib.Bits.{bitXor}
 use lib.Count.{ones, ones-step}
 use lib.Dec.{lit<}
 use lib.Pow.{pow-pos}
-use lib.ListN.{length, getD, replicate, length-replicate}
+use lib.ListN.{getD, replicate, length-replicate}
 use Rattle.cells.proofs.Digits.{digit, low-lt}
 use Rattle.cells.proofs.Xors.{same-bytes}
 use Rattle.simplex.specs.Shape.{banksOf, limitOf, degreeOf}
