@@ -33,26 +33,14 @@ put-more s at t i l v h e w =
 pub put-all : (s : List ℕ) (at : ℕ) (t : List ℕ) (i : ℕ) (l : List ℕ) → length t ≤ i → l ≡ put s at (take i t) → l ≡ put s at t
 put-all s at t i l h e = e ∙ ap (put s at) (take-all i t h)
 
--- where t is the XOR of two cells of p bytes
-pub length-two : (s u : List ℕ) (a b p : ℕ) → a + p ≤ length s → b + p ≤ length u → length (xorBytes (cell s a p) (cell u b p)) ≡ p
-length-two s u a b p ha hb =
-    length-xor (cell s a p) (cell u b p) (length-cell s a p ha ∙ sym (length-cell u b p hb)) ∙ length-cell s a p ha
+-- where t is the XOR of a cell of p bytes and of c: how long it is, and its byte i
+pub length-xor-cell : (s : List ℕ) (a p : ℕ) (c : List ℕ) → a + p ≤ length s → length c ≡ p → length (xorBytes (cell s a p) c) ≡ p
+length-xor-cell s a p c h e = length-xor (cell s a p) c (length-cell s a p h ∙ sym e) ∙ length-cell s a p h
 
-pub byte-two : (s u : List ℕ) (a b p i : ℕ) → i < p → a + p ≤ length s → b + p ≤ length u
-    → bitXor (getD s (a + i) 0) (getD u (b + i) 0) ≡ getD (xorBytes (cell s a p) (cell u b p)) i 0
-byte-two s u a b p i h ha hb =
-    sym (getD-xor (cell s a p) (cell u b p) i (length-cell s a p ha ∙ sym (length-cell u b p hb))
-    ∙ ap₂ bitXor (getD-cell s a p i h) (getD-cell u b p i h))
-
--- where it is the XOR of a cell and of c
-pub length-one : (s : List ℕ) (from : ℕ) (c : List ℕ) → from + length c ≤ length s → length (xorBytes (cell s from (length c)) c) ≡ length c
-length-one s from c h = length-xor (cell s from (length c)) c (length-cell s from (length c) h) ∙ length-cell s from (length c) h
-
-pub byte-one : (s : List ℕ) (from : ℕ) (c : List ℕ) (i : ℕ) → i < length c → from + length c ≤ length s
-    → bitXor (getD s (from + i) 0) (getD c i 0) ≡ getD (xorBytes (cell s from (length c)) c) i 0
-byte-one s from c i h l =
-    sym (getD-xor (cell s from (length c)) c i (length-cell s from (length c) l)
-    ∙ ap (λ (x : ℕ). bitXor x (getD c i 0)) (getD-cell s from (length c) i h))
+pub byte-xor-cell : (s : List ℕ) (a p : ℕ) (c : List ℕ) (i : ℕ) → i < p → a + p ≤ length s → length c ≡ p
+    → bitXor (getD s (a + i) 0) (getD c i 0) ≡ getD (xorBytes (cell s a p) c) i 0
+byte-xor-cell s a p c i l h e =
+    sym (getD-xor (cell s a p) c i (length-cell s a p h ∙ sym e) ∙ ap (λ (x : ℕ). bitXor x (getD c i 0)) (getD-cell s a p i l))
 
 -- a byte of the source cell is not set before it is read: it lies before the cell that is set, or at or past the byte of this turn
 pub not-yet : (s : List ℕ) (at : ℕ) (t : List ℕ) (i : ℕ) (l : List ℕ) (from n : ℕ) → i < n → n ≤ length t → l ≡ put s at (take i t)

@@ -1,4 +1,4 @@
-// The loops over bytes: each sets one cell of a slice. Every other crate touches bytes through these.
+// The leaves on bytes: each sets one cell of a slice. Every other crate writes bytes through these.
 ghost use mathlib.Core.Path.{_≡_};
 ghost use mathlib.Core.Logic.{_⊎_};
 ghost use Prim.Native.Nat.{_+_, _≤_};

@@ -16,7 +16,7 @@ use Rattle.cells.proofs.Xors.{same-bytes}
 use Rattle.simplex.specs.Shape.{banksOf, limitOf, degreeOf}
 use Rattle.simplex.specs.Code.{Banks, xorOfBanks, Yields}
 use Rattle.simplex.specs.Limit.{readsOf, In, DisjointSets, Fails, TheLimit, LimitOfReads}
-use Rattle.simplex.proofs.Parity.{allOnes, allOnes-content, cell-parity, odd-half}
+use Rattle.simplex.proofs.Parity.{allOnes, allOnes-content, cell-parity, odd-half, pow-less}
 use Rattle.simplex.proofs.Pigeon.{pigeon}
 use Rattle.simplex.proofs.Requests.{length-reads}
 
@@ -56,9 +56,7 @@ scan K P sets h (suc m) = go (scan K P sets h m) (odd-or-blank K P (getD sets m 
 -- a bank's half is below the limit
 half-below : (K b : ℕ) → b ≤ banksOf K → 1 ≤ b → b / 2 < limitOf K
 half-below zero b h l = absurd (omega arith)
-half-below (suc k) b h l =
-    let less : suc k - 1 ≡ k = omega arith in
-    omega (arith, pow-suc 2 k, pow-pos k, ap (λ (n : ℕ). 2 ^ n) less)
+half-below (suc k) b h l = omega (arith, pow-suc 2 k, pow-pos k, pow-less k)
 
 -- more sets than the limit: one of them is blank
 blank : (K P : ℕ) (reads : List ℕ) (sets : List Banks) → limitOf K < length reads → DisjointSets K reads sets

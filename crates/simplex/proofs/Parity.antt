@@ -62,30 +62,28 @@ odd-half a b oa ob e = omega (arith, ones-step a, ones-step b, ap degreeOf e)
 
 -- ---- how many are odd: one of 2 n and 2 n + 1
 
-even : (n : ℕ) → degreeOf (n * 2) ≡ degreeOf n
-even n =
-    let low : n * 2 % 2 ≡ 0 = omega arith in
-    let half : n * 2 / 2 ≡ n = omega arith in
-    omega (arith, ones-step (n * 2), ap degreeOf half)
-
-odd : (n : ℕ) → degreeOf (suc (n * 2)) ≡ suc (degreeOf n)
-odd n =
-    let low : suc (n * 2) % 2 ≡ 1 = omega arith in
-    let half : suc (n * 2) / 2 ≡ n = omega arith in
-    omega (arith, ones-step (suc (n * 2)), ap degreeOf half)
+last-digit : (n d : ℕ) → d < 2 → degreeOf (n * 2 + d) ≡ degreeOf n + d
+last-digit n d h =
+    let low : (n * 2 + d) % 2 ≡ d = omega arith in
+    let half : (n * 2 + d) / 2 ≡ n = omega arith in
+    omega (arith, ones-step (n * 2 + d), ap degreeOf half)
 
 odd-pairs : (n : ℕ) → oddBanks (suc (n * 2)) ≡ suc n
 unfolding ones
 odd-pairs zero = refl
 odd-pairs (suc n) =
+    let even : suc (suc (n * 2)) ≡ suc n * 2 + 0 = omega arith in
+    let odd : suc (suc (suc (n * 2))) ≡ suc n * 2 + 1 = omega arith in
     let twice : suc (suc n * 2) ≡ suc (suc (suc (n * 2))) = omega arith in
-    let up : suc (suc (n * 2)) ≡ suc n * 2 = omega arith in
     let ih : oddBanks (suc (n * 2)) ≡ suc n = odd-pairs n in
-    ap oddBanks twice ∙ omega (arith, odd (suc n), even (suc n), ap degreeOf up, ap (λ (m : ℕ). degreeOf (suc m)) up)
+    ap oddBanks twice
+    ∙ omega (arith, last-digit (suc n) 0 (lit< tt), last-digit (suc n) 1 (lit< tt), ap degreeOf even, ap degreeOf odd)
+
+pub pow-less : (k : ℕ) → 2 ^ (suc k - 1) ≡ 2 ^ k
+pow-less k = let less : suc k - 1 ≡ k = omega arith in ap (λ (m : ℕ). 2 ^ m) less
 
 pub odd-banks : (K : ℕ) → 1 ≤ K → oddBanks (banksOf K) ≡ limitOf K
 odd-banks zero h = absurd (omega arith)
 odd-banks (suc k) h =
-    let less : suc k - 1 ≡ k = omega arith in
     let n : banksOf (suc k) ≡ suc ((2 ^ k - 1) * 2) = omega (arith, pow-suc 2 k, pow-pos k) in
-    ap oddBanks n ∙ odd-pairs (2 ^ k - 1) ∙ omega (arith, pow-pos k, ap (λ (m : ℕ). 2 ^ m) less)
+    ap oddBanks n ∙ odd-pairs (2 ^ k - 1) ∙ omega (arith, pow-pos k, pow-less k)

@@ -10,7 +10,6 @@ use lib.ListN.{length, getD}
 use lib.Pow.{pow-mono}
 use Rattle.cells.specs.Cell.{cell, put}
 use Rattle.cells.specs.Xor.{xorBytes}
-use Rattle.cells.proofs.Cells.{length-put}
 use Rattle.simplex.specs.Shape.{banksOf}
 use Rattle.simplex.specs.Code.{Packet, Sized, bankCell}
 use Rattle.simplex.specs.Filling.{filled, Room}
@@ -26,13 +25,6 @@ pub bank-top : (P : ℕ) (packets : List Packet) (b h : ℕ) → b < 2 ^ h → h
     → xorBytes (bankCell P packets b) (getD packets h []) ≡ bankCell P packets (2 ^ h + b)
 bank-top P packets b h l q s =
     ap (xorBytes (bankCell P packets b)) (sym (cell-one P packets h q s)) ∙ linear P packets b (2 ^ h) s ∙ ap (bankCell P packets) (top b h l)
-
-pub length-doubled : (c : Packet) (place : ℕ → ℕ) (t n : ℕ) (s : List ℕ) → length (doubled c place t n s) ≡ length s
-unfolding doubled
-length-doubled c place t zero s = refl
-length-doubled c place t (suc n) s =
-    length-put (doubled c place t n s) (place (suc t + suc n)) (xorBytes (cell (doubled c place t n s) (place (suc n)) (length c)) c)
-    ∙ length-doubled c place t n s
 
 -- the loop that computes them: before its first turn, and a turn of it
 pub doubled-none : (c : Packet) (place : ℕ → ℕ) (t : ℕ) (s : List ℕ) → s ≡ doubled c place t 0 s

@@ -21,7 +21,7 @@ pub struct Group {
 }
 
 // The fixed table, by K from LEAST_SYMBOLS to MOST_SYMBOLS.
-const GROUPS: [Group; 4] = [
+const GROUPS: [Group; MOST_SYMBOLS - LEAST_SYMBOLS + 1] = [
     Group { banks: 3, limit: 2 },
     Group { banks: 7, limit: 4 },
     Group {

@@ -1,13 +1,14 @@
 -- `cells::xor_cells` meets its contract: the first i bytes of the XOR are put.
-use Prim.Native.Nat.{_≤_, _-_}
-use mathlib.Core.Path.{_≡_, refl}
+use Prim.Native.Nat.{_≤_, _+_, _-_}
+use mathlib.Core.Path.{_≡_, refl, sym, ap, _∙_}
 use native.Mathlib.Omega.{arith}
-use lib.ListN.{length, take, length-set}
+use lib.Bits.{bitXor}
+use lib.ListN.{length, getD, take, length-set}
 use denote.Ref.{now}
 use Rattle.cells.specs.Cell.{put, cell}
 use Rattle.cells.specs.Xor.{xorBytes}
-use Rattle.cells.proofs.Cells.{put-none}
-use Rattle.cells.proofs.Turns.{put-more, put-all, length-two, byte-two}
+use Rattle.cells.proofs.Cells.{put-none, length-cell, getD-cell}
+use Rattle.cells.proofs.Turns.{put-more, put-all, length-xor-cell, byte-xor-cell}
 use Rattle.cells.proofs.xor_cells.Statement.{statement}
 use Rattle.cells.proofs.xor_cells.Tie as tie
 
@@ -49,10 +50,13 @@ loop-again c =
     let a = c .before .before .before .before .args in
     let l = c .before .before .before .loop in
     let s = now (a .s) in
-    let n = length-two s s (a .a) (a .b) (a .p) (omega arith) (omega arith) in (
+    let second = length-cell s (a .b) (a .p) (omega arith) in
+    let n = length-xor-cell s (a .a) (a .p) (cell s (a .b) (a .p)) (omega arith) second in (
       omega arith,
       simp length-set (omega arith),
-      put-more _ _ _ _ _ _ (omega arith) (l .inv .2) (byte-two s s (a .a) (a .b) (a .p) (l .i) (omega arith) (omega arith) (omega arith)),
+      put-more _ _ _ _ _ _ (omega arith) (l .inv .2)
+          (ap (bitXor (getD s (a .a + l .i) 0)) (sym (getD-cell s (a .b) (a .p) (l .i) (omega arith)))
+          ∙ byte-xor-cell s (a .a) (a .p) (cell s (a .b) (a .p)) (l .i) (omega arith) (omega arith) second),
     )
 
 same-length : tie.Need-same-length Inv-loop μ-loop
@@ -61,7 +65,8 @@ same-length c = omega arith
 returns : tie.Need-returns Inv-loop μ-loop
 returns c =
     let a = c .before .before .args in
-    let n = length-two (now (a .s)) (now (a .s)) (a .a) (a .b) (a .p) (omega arith) (omega arith) in
+    let s = now (a .s) in
+    let n = length-xor-cell s (a .a) (a .p) (cell s (a .b) (a .p)) (omega arith) (length-cell s (a .b) (a .p) (omega arith)) in
     put-all _ _ _ (c .before .loop .i) _ (omega arith) (c .before .loop .inv .2)
 
 pub xor-cells-spec : {M : Type 1} → statement M

@@ -8,7 +8,7 @@ use denote.Ref.{now}
 use Rattle.cells.specs.Cell.{put, cell}
 use Rattle.cells.specs.Xor.{xorBytes}
 use Rattle.cells.proofs.Cells.{put-none}
-use Rattle.cells.proofs.Turns.{put-more, put-all, length-one, byte-one, not-yet}
+use Rattle.cells.proofs.Turns.{put-more, put-all, length-xor-cell, byte-xor-cell, not-yet}
 use Rattle.cells.proofs.xor_from.Statement.{statement}
 use Rattle.cells.proofs.xor_from.Tie as tie
 
@@ -49,13 +49,13 @@ loop-again c =
     let a = st .args in
     let l = c .before .before .before .loop in
     let h : a .from + length (now (a .src)) ≤ length (now (a .s)) = omega arith in
-    let n = length-one (now (a .s)) (a .from) (now (a .src)) h in (
+    let n = length-xor-cell (now (a .s)) (a .from) (length (now (a .src))) (now (a .src)) h refl in (
       omega arith,
       simp length-set (omega arith),
       put-more _ _ _ _ _ _ (omega arith) (l .inv .2)
           (ap (λ (x : ℕ). bitXor x (getD (now (a .src)) (l .i) 0))
           (not-yet _ _ _ _ _ (a .from) (length (now (a .src))) (omega arith) (omega arith) (l .inv .2) (st .pre .1))
-          ∙ byte-one (now (a .s)) (a .from) (now (a .src)) (l .i) (omega arith) h),
+          ∙ byte-xor-cell (now (a .s)) (a .from) (length (now (a .src))) (now (a .src)) (l .i) (omega arith) h refl),
     )
 
 same-length : tie.Need-same-length Inv-loop μ-loop
@@ -64,7 +64,7 @@ same-length c = omega arith
 returns : tie.Need-returns Inv-loop μ-loop
 returns c =
     let a = c .before .before .args in
-    let n = length-one (now (a .s)) (a .from) (now (a .src)) (omega arith) in
+    let n = length-xor-cell (now (a .s)) (a .from) (length (now (a .src))) (now (a .src)) (omega arith) refl in
     put-all _ _ _ (c .before .loop .i) _ (omega arith) (c .before .loop .inv .2)
 
 pub xor-from-spec : {M : Type 1} → statement M
