@@ -4,13 +4,12 @@ use mathlib.Core.List.{List, [], _∷_}
 use Prim.Native.Nat.{ℕ, zero, suc, _/_, _%_, _^_, _≤_, _<_}
 use native.Mathlib.Nat.{le-of-suc-le-suc, le-of-eq, div-one, not-suc-le-zero, pow-suc}
 use native.Mathlib.Omega.{arith}
-use native.Mathlib.Numerals.{one-add}
 use lib.Bits.{bitXor}
-use lib.Pow.{shr-shr}
 use lib.ListN.{length, getD, length-replicate}
 use Rattle.cells.specs.Xor.{xorBytes, zeros, xorAll}
 use Rattle.cells.proofs.Digits.{digit, low-lt, xor-half, xor-low}
 use Rattle.cells.proofs.Xors.{assoc, left-comm, cancel, zeros-right, same-bytes, length-xor}
+use Rattle.simplex.proofs.Bits.{bit-half}
 use Rattle.simplex.specs.Code.{Packet, Sized, Content, bit, keepIf, chosen, bankCell, Banks, xorOfBanks, xorOfNumbers, Yields}
 
 pub sized-at : (P : ℕ) (packets : List Packet) (i : ℕ) → i < length packets → Sized P packets → length (getD packets i []) ≡ P
@@ -20,12 +19,9 @@ sized-at P (p ∷ packets) (suc i) l h = sized-at P packets i (le-of-suc-le-suc 
 
 -- ---- the first packet goes by the lowest bit of b, and the others by b / 2
 
-bit-half : (b i : ℕ) → bit b (suc i) ≡ bit (b / 2) i
-bit-half b i = ap (λ (n : ℕ). n % 2) (ap (λ (n : ℕ). b / 2 ^ n) (sym (one-add i)) ∙ sym (shr-shr b 1 i))
-
 chosen-half : (b i : ℕ) (packets : List Packet) → chosen b (suc i) packets ≡ chosen (b / 2) i packets
 chosen-half b i [] = refl
-chosen-half b i (p ∷ packets) = ap₂ (λ (d : ℕ) (ps : List Packet). keepIf d p ps) (bit-half b i) (chosen-half b (suc i) packets)
+chosen-half b i (p ∷ packets) = ap₂ (λ (d : ℕ) (ps : List Packet). keepIf d p ps) (bit-half b i refl) (chosen-half b (suc i) packets)
 
 -- p XOR r where the digit is 1, else r
 abbrev pub xorIf : ℕ → Packet → Packet → Packet

@@ -23,6 +23,10 @@ banksOf K = 2 ^ K - 1
 abbrev pub limitOf : ℕ → ℕ
 limitOf K = 2 ^ (K - 1)
 
+-- The most pairs of a plan: the limit at the largest K.
+abbrev pub mostPairs : ℕ
+mostPairs = limitOf mostSymbols
+
 -- The row of K in the fixed table.
 abbrev pub groupOf : ℕ → Group
 groupOf K = record { banks = banksOf K; limit = limitOf K }

@@ -14,6 +14,9 @@ pub const LEAST_SYMBOLS: usize = 2;
 
 pub const MOST_SYMBOLS: usize = 5;
 
+// The most pairs of a plan: the limit at the largest K.
+pub const MOST_PAIRS: usize = 1 << (MOST_SYMBOLS - 1);
+
 // What K fixes: the banks of a group, and the most reads that it serves in a cycle.
 pub struct Group {
     pub banks: usize,

@@ -1,0 +1,51 @@
+-- The audit: whether bytes are a plan for the counts.
+use mathlib.Core.Bool.{Bool, true, false, _&&_}
+use mathlib.Core.List.{List, [], _∷_}
+use Prim.Native.Nat.{ℕ, zero, suc, _+_, _-_, _%_, _^_}
+use lib.Dec.{leb, eqb}
+use lib.ListN.{length, drop}
+use Rattle.refusals.specs.declared.Verdict.{Verdict}
+use Rattle.refusals.specs.declared.Verdict.the-variants.{Accepted, Refused}
+use Rattle.refusals.specs.Verdict.{check, _then_}
+use Rattle.simplex.specs.Shape.{leastSymbols, mostSymbols}
+use Rattle.simplex.specs.Limit.{total}
+use Rattle.audit.specs.Plan.{Pair, isPlan}
+use Rattle.audit.specs.declared.Rest.{Rest}
+use Rattle.audit.specs.declared.Audited.{Audited}
+use Rattle.audit.specs.declared.Audited.the-variants.{Yes, No, Refused as NotAudited}
+
+abbrev pub allZero : List ℕ → Bool
+allZero [] = true
+allZero (c ∷ counts) = eqb c 0 && allZero counts
+
+-- The refusals of a request vector: 1, K is out of its range; 11, a count for a symbol from K on is not 0.
+abbrev pub countsRefusal : ℕ → List ℕ → Verdict
+countsRefusal K counts = check 1 0 (leb leastSymbols K && leb K mostSymbols) then check 11 0 (allZero (drop K counts))
+
+-- The pairs that bytes stand for, two bytes each: a, then b.
+abbrev pub pairsOf : List ℕ → List Pair
+pairsOf [] = []
+pairsOf (a ∷ []) = []
+pairsOf (a ∷ b ∷ bytes) = record { a = a; b = b } ∷ pairsOf bytes
+
+-- An odd count of bytes is no plan.
+abbrev pub isPlanOf : ℕ → List ℕ → List ℕ → Bool
+isPlanOf K counts bytes = eqb (length bytes % 2) 0 && isPlan K counts (pairsOf bytes)
+
+abbrev pub answer : Verdict → Bool → Audited
+answer Accepted true = Yes
+answer Accepted false = No
+answer (Refused number place) plan = NotAudited number place
+
+-- What the audit answers: a refusal, or yes exactly if the bytes are a plan.
+unfoldable pub auditOf : ℕ → List ℕ → List ℕ → Audited
+auditOf K counts bytes = answer (countsRefusal K counts) (isPlanOf K counts bytes)
+
+-- What the counts leave of a number.
+abbrev pub restOf : ℕ → List ℕ → Rest
+restOf room counts = record { fits = leb (total counts) room; left = room - total counts }
+
+-- How the audit marks the banks that it has met: bank b by bit b of a number. Bank 0 stands for no bank.
+abbrev pub marked : ℕ → ℕ → ℕ
+marked set zero = set
+marked set (suc b) = set + 2 ^ suc b

@@ -1,0 +1,23 @@
+-- What an accepted verdict tells: every check of it is passed.
+use mathlib.Core.Path.{_≡_, refl}
+use mathlib.Core.Bool.{Bool, true, false}
+use Prim.Native.Nat.{ℕ}
+use native.Mathlib.Omega.{arith}
+use Rattle.refusals.specs.declared.Verdict.{Verdict}
+use Rattle.refusals.specs.declared.Verdict.the-variants.{Accepted, Refused}
+use Rattle.refusals.specs.Verdict.{check, _then_}
+
+not-accepted : {A : Type 0} (number place : ℕ) → Refused number place ≡ Accepted → A
+not-accepted number place e = absurd (let z : _≡_ {A = ℕ} 0 1 = cc in omega arith)
+
+pub first-accepted : (v next : Verdict) → (v then next) ≡ Accepted → v ≡ Accepted
+first-accepted Accepted next e = refl
+first-accepted (Refused number place) next e = e
+
+pub next-accepted : (v next : Verdict) → (v then next) ≡ Accepted → next ≡ Accepted
+next-accepted Accepted next e = e
+next-accepted (Refused number place) next e = not-accepted number place e
+
+pub check-passed : (number place : ℕ) (test : Bool) → check number place test ≡ Accepted → test ≡ true
+check-passed number place true e = refl
+check-passed number place false e = not-accepted number place e

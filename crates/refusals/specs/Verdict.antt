@@ -1,0 +1,16 @@
+-- How the refusal of an operation is said: a list of checks, of which the first that is not passed gives its number and place.
+use mathlib.Core.Bool.{Bool, true, false}
+use Prim.Native.Nat.{ℕ}
+use Rattle.refusals.specs.declared.Verdict.{Verdict}
+use Rattle.refusals.specs.declared.Verdict.the-variants.{Accepted, Refused}
+
+-- The refusal with this number and place, unless the test is passed.
+abbrev pub check : (number place : ℕ) → Bool → Verdict
+check number place true = Accepted
+check number place false = Refused number place
+
+infixr 20 _then_
+-- The first refusal of the two.
+abbrev pub _then_ : Verdict → Verdict → Verdict
+Accepted then next = next
+Refused number place then next = Refused number place

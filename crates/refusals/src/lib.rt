@@ -1,0 +1,7 @@
+// How an operation answers that it says no.
+
+// Accepted, or refused with the refusal's number and place.
+pub enum Verdict {
+    Accepted,
+    Refused(u8, usize),
+}
