@@ -1,0 +1,57 @@
+-- The stored table: a row for each sorted request, that is, for falling counts that total 2^(K-1).
+use mathlib.Core.Path.{_≡_}
+use mathlib.Core.List.{List, [], _∷_}
+use Prim.Native.Nat.{ℕ, zero, suc, _+_, _*_, _-_, _/_, _%_, _^_, _≤_}
+use lib.ListN.{length, getD}
+use Rattle.simplex.specs.Shape.{leastSymbols, mostSymbols, SymbolsInRange, limitOf}
+use Rattle.simplex.specs.Limit.{total}
+use Rattle.audit.specs.Plan.{Pair, start, IsPlan}
+use Rattle.audit.specs.Grouped.{pairWith, grouped}
+use Rattle.table.specs.Rows.{blockRows, blocks, trie}
+
+-- Each count is at most the one before it, and the first at most this.
+abbrev pub Falling : ℕ → List ℕ → Type 0
+Falling most [] = Unit {0}
+Falling most (c ∷ counts) = (c ≤ most) × Falling c counts
+
+-- A sorted request: falling counts that total 2^(K-1), those from K on being 0.
+pub record SortedRequest (K : ℕ) (counts : List ℕ) : Type 0 where
+  pub symbols : SymbolsInRange K
+  pub size : length counts ≡ mostSymbols
+  pub falling : Falling (limitOf K) counts
+  pub full : total counts ≡ limitOf K
+  pub beyond : (i : ℕ) → K ≤ i → getD counts i 0 ≡ 0
+
+-- The walk through the trie: n steps on from `at`, by the counts of symbols n + 1, n, .., 2.
+abbrev pub walk : List ℕ → ℕ → ℕ → ℕ
+walk counts at zero = at
+walk counts at (suc n) = walk counts (getD trie (at + getD counts (suc (suc n)) 0) 0) n
+
+-- The index of the row of a sorted request.
+abbrev pub rowIndex : ℕ → List ℕ → ℕ
+rowIndex K counts = walk counts (getD trie (K - leastSymbols) 0) (K - 2) + getD counts 1 0
+
+-- Its row: a number with a digit of mostSymbols - 1 bits for each read.
+unfoldable pub rowOf : ℕ → List ℕ → ℕ
+rowOf K counts = getD (getD blocks (rowIndex K counts / blockRows) []) (rowIndex K counts % blockRows) 0
+
+-- Digit n is the second bank of read n, without the bit of the read's own symbol p, which is 0 there: the bits from p on stand one place lower.
+abbrev pub digitBits : ℕ
+digitBits = mostSymbols - 1
+
+abbrev pub digitOf : ℕ → ℕ → ℕ
+digitOf row n = row / 2 ^ (digitBits * n) % 2 ^ digitBits
+
+abbrev pub spread : ℕ → ℕ → ℕ
+spread p x = x + x / 2 ^ p * 2 ^ p
+
+abbrev pub secondBank : ℕ → ℕ → ℕ → ℕ
+secondBank row p n = spread p (digitOf row n)
+
+-- The pairs of a row.
+abbrev pub rowPairs : ℕ → List ℕ → List Pair
+rowPairs row counts = grouped (λ p j. pairWith p (secondBank row p (start counts p + j))) 0 counts
+
+-- Every sorted request has a row, and the pairs of the row are a plan for it.
+abbrev pub TheTable : Type 0
+TheTable = (K : ℕ) (counts : List ℕ) → SortedRequest K counts → IsPlan K counts (rowPairs (rowOf K counts) counts)
