@@ -1,0 +1,37 @@
+-- What the planner answers.
+use mathlib.Core.List.{List, []}
+use Prim.Native.Nat.{ℕ}
+use lib.Dec.{leb}
+use lib.ListN.{length}
+use Rattle.refusals.specs.declared.Verdict.{Verdict}
+use Rattle.refusals.specs.declared.Verdict.the-variants.{Accepted, Refused}
+use Rattle.refusals.specs.Verdict.{check, _then_}
+use Rattle.simplex.specs.Shape.{mostPairs, limitOf}
+use Rattle.simplex.specs.Limit.{total}
+use Rattle.audit.specs.Plan.{Pair, pairAt}
+use Rattle.audit.specs.Grouped.{listOf}
+use Rattle.audit.specs.Audit.{countsRefusal}
+use Rattle.plan.specs.declared.Plan.{Plan}
+use Rattle.plan.specs.declared.Planned.{Planned}
+use Rattle.plan.specs.Finding.{planOf}
+
+-- The refusals of a plan: 1 and 11 as of every request vector; 12, the counts total more than 2^(K-1).
+unfoldable pub planRefusal : ℕ → List ℕ → Verdict
+planRefusal K counts = countsRefusal K counts then check 12 0 (leb (total counts) (limitOf K))
+
+-- Pairs in arrays of sixteen: places after the last pair hold (0, 0).
+abbrev pub stored : List Pair → Plan
+stored pairs =
+    record {
+      first = listOf (λ n. pairAt pairs n .a) 0 mostPairs;
+      second = listOf (λ n. pairAt pairs n .b) 0 mostPairs;
+      len = length pairs;
+    }
+
+-- A refused plan has no pairs.
+abbrev pub pairsIf : Verdict → List Pair → List Pair
+pairsIf Accepted pairs = pairs
+pairsIf (Refused number place) pairs = []
+
+unfoldable pub planned : ℕ → List ℕ → Planned
+planned K counts = record { verdict = planRefusal K counts; plan = stored (pairsIf (planRefusal K counts) (planOf K counts)) }
