@@ -1,0 +1,176 @@
+#!/usr/bin/env python3
+"""Measures the planner at K = 5 beside plain Rust of the same method and table, in one process, and compares their plans on every request.
+
+    python3 tools/plan_speed.py
+
+Needs rustc. It works in a scratch directory: a copy of the crates with two exported functions added to `plan`.
+"""
+import pathlib
+import re
+import shutil
+import subprocess
+import tempfile
+
+ROOT = pathlib.Path(__file__).parent.parent
+
+EXPORTS = """
+#[no_mangle]
+pub extern "C" fn proved_pair(k: usize, a: usize, b: usize, c: usize, d: usize, e: usize, n: usize) -> usize {
+    let planned = plan_group(k, [a, b, c, d, e]);
+    let plan = planned.plan;
+    let first = plan.first;
+    let second = plan.second;
+    if n < MOST_PAIRS {
+        (first[n] % 64) as usize * 64 + (second[n] % 64) as usize
+    } else {
+        0
+    }
+}
+
+#[no_mangle]
+pub extern "C" fn proved_plan(k: usize, a: usize, b: usize, c: usize, d: usize, e: usize) -> usize {
+    let planned = plan_group(k, [a, b, c, d, e]);
+    let plan = planned.plan;
+    let first = plan.first;
+    let second = plan.second;
+    (first[0] % 64) as usize * 64 + (second[15] % 64) as usize
+}
+"""
+
+BENCH = r"""
+use std::{hint::black_box, time::Instant};
+
+#[link(name = "plan", kind = "static")]
+extern "C" {
+    fn proved_pair(k: usize, a: usize, b: usize, c: usize, d: usize, e: usize, n: usize) -> usize;
+    fn proved_plan(k: usize, a: usize, b: usize, c: usize, d: usize, e: usize) -> usize;
+}
+
+static TRIE: &[u8] = &[@TRIE@];
+static ROWS: &[u64] = &[@ROWS@];
+
+struct Plan {
+    first: [u8; 16],
+    second: [u8; 16],
+}
+
+#[inline(never)]
+fn plain_plan(k: usize, counts: [usize; 5]) -> Plan {
+    let mut plan = Plan { first: [0; 16], second: [0; 16] };
+    let left = (1 << (k - 1)) - counts.iter().sum::<usize>();
+    let (mut ranks, mut sorted, mut starts) = ([0; 5], [0; 5], [0; 5]);
+    for i in 0..k {
+        ranks[i] = (0..k).filter(|&j| counts[i] < counts[j] || counts[i] == counts[j] && j < i).count();
+        sorted[ranks[i]] = counts[i];
+    }
+    sorted[0] += left;
+    for p in 1..5 {
+        starts[p] = starts[p - 1] + sorted[p - 1];
+    }
+    let mut at = TRIE[k - 2] as usize;
+    for p in (2..k).rev() {
+        at = TRIE[at + sorted[p]] as usize;
+    }
+    let row = ROWS[at + sorted[1]];
+    let mut n = 0;
+    for i in 0..k {
+        for j in 0..counts[i] {
+            let p = ranks[i];
+            let digit = (row >> (4 * (starts[p] + j)) & 15) as usize;
+            let bank = digit + (digit >> p << p);
+            let b: usize = (0..k).map(|s| (bank >> ranks[s] & 1) << s).sum();
+            plan.first[n] = (b + (1 << i)) as u8;
+            plan.second[n] = b as u8;
+            n += 1;
+        }
+    }
+    plan
+}
+
+fn plain_pair(k: usize, c: [usize; 5], n: usize) -> usize {
+    let plan = plain_plan(k, c);
+    plan.first[n] as usize * 64 + plan.second[n] as usize
+}
+
+fn compared_pair(k: usize, c: [usize; 5], n: usize) -> usize {
+    unsafe { proved_pair(k, c[0], c[1], c[2], c[3], c[4], n) }
+}
+
+fn proved(k: usize, c: [usize; 5]) -> usize {
+    unsafe { proved_plan(k, c[0], c[1], c[2], c[3], c[4]) }
+}
+
+fn plain(k: usize, c: [usize; 5]) -> usize {
+    let plan = plain_plan(k, c);
+    plan.first[0] as usize * 64 + plan.second[15] as usize
+}
+
+fn compare() -> usize {
+    let mut compared = 0;
+    for k in 2..=5usize {
+        let limit = 1usize << (k - 1);
+        for x in 0..(limit + 1).pow(k as u32) {
+            let mut counts = [0; 5];
+            let mut rest = x;
+            for i in 0..k {
+                counts[i] = rest % (limit + 1);
+                rest /= limit + 1;
+            }
+            if counts.iter().sum::<usize>() <= limit {
+                assert!((0..16).all(|n| compared_pair(k, counts, n) == plain_pair(k, counts, n)));
+                compared += 1;
+            }
+        }
+    }
+    compared
+}
+
+fn median(requests: &[[usize; 5]], plan: fn(usize, [usize; 5]) -> usize) -> f64 {
+    let mut times = vec![];
+    for _ in 0..101 {
+        let start = Instant::now();
+        for &c in requests {
+            black_box(plan(black_box(5), c));
+        }
+        times.push(start.elapsed().as_nanos() as f64 / requests.len() as f64);
+    }
+    times.sort_by(|a, b| a.partial_cmp(b).unwrap());
+    times[50]
+}
+
+fn main() {
+    println!("plans compared: {}, all the same", compare());
+    let (mut x, mut requests) = (88172645463325252u64, vec![]);
+    for _ in 0..10_000 {
+        let mut counts = [0; 5];
+        for _ in 0..16 {
+            x ^= x << 13;
+            x ^= x >> 7;
+            x ^= x << 17;
+            counts[(x >> 16) as usize % 5] += 1;
+        }
+        requests.push(counts);
+    }
+    println!("K = 5, random requests of 16 reads, medians: proved {:.0} ns a plan, plain Rust {:.0} ns", median(&requests, proved), median(&requests, plain));
+}
+"""
+
+
+def main():
+    rows = (ROOT / "crates" / "table" / "src" / "rows.rt").read_text()
+    trie = re.search(r"TRIE: \[u8; \d+\] = \[([\d,\s]*)\]", rows)[1]
+    words = ",".join(re.findall(r"0x[0-9a-f]{16}", rows))
+    with tempfile.TemporaryDirectory() as scratch:
+        work = pathlib.Path(scratch)
+        shutil.copy(ROOT / "crates.txt", work)
+        shutil.copytree(ROOT / "crates", work / "crates")
+        with (work / "crates" / "plan" / "src" / "lib.rt").open("a") as source:
+            source.write(EXPORTS)
+        (work / "bench.rs").write_text(BENCH.replace("@TRIE@", trie).replace("@ROWS@", words))
+        subprocess.run(["rt", "staticlib", "plan"], cwd=work, check=True, stdout=subprocess.DEVNULL)
+        subprocess.run(["rustc", "-O", "bench.rs", "-L", "target/staticlib", "-o", "bench"], cwd=work, check=True)
+        subprocess.run(["./bench"], cwd=work, check=True)
+
+
+if __name__ == "__main__":
+    main()
