@@ -2,7 +2,7 @@
 """Judges what the program cases prints, with nothing of the planner in it: each plan by the words of the rules, each refusal by its order, and the
 counts of the exhaustive part by binomials.
 
-    python3 tools/cases.py < crates/cases/stdout
+    python3 tools/cases.py crates/cases/stdin < crates/cases/stdout
 """
 import re
 import sys
@@ -40,20 +40,22 @@ def tally(K):
     )
 
 
-def is_right(line):
-    request = re.fullmatch(r"K (\d+), counts((?: \d+){5}):(.*)", line)
-    if request is None:
-        return line in [tally(K) for K in range(2, MOST_SYMBOLS + 1)]
-    K, counts, answer = int(request[1]), [int(c) for c in request[2].split()], request[3]
+def is_right(request, line):
+    K, counts = request[0], request[1:]
+    head = f"K {K}, counts {' '.join(map(str, counts))}:"
     number = refusal(K, counts)
     if number:
-        return answer == f" refused {number}"
-    pairs = [(int(a), int(b)) for a, b in re.findall(r"\((\d+),(\d+)\)", answer)]
-    return answer == "".join(f" ({a},{b})" for a, b in pairs) + "; the audit says yes" and is_plan(K, counts, pairs)
+        return line == f"{head} refused {number}, place 0"
+    pairs = [(int(a), int(b)) for a, b in re.findall(r"\((\d+),(\d+)\)", line)]
+    return line == head + "".join(f" ({a},{b})" for a, b in pairs) + "; the audit says yes" and is_plan(K, counts, pairs)
 
 
+requests = [[int(n) for n in line.split()] for line in open(sys.argv[1])]
 lines = sys.stdin.read().splitlines()
-wrong = [line for line in lines if not is_right(line)]
+tallies = [tally(K) for K in range(2, MOST_SYMBOLS + 1)]
+wrong = [line for request, line in zip(requests, lines) if not is_right(request, line)]
+if len(lines) < len(requests) or lines[len(requests):] != tallies:
+    wrong += ["the requests or the counts after them are not all there"]
 for line in wrong:
     print("wrong:", line)
 print(f"{len(lines)} lines, {len(wrong)} wrong")

@@ -11,7 +11,7 @@ import pathlib
 
 LEAST_SYMBOLS, MOST_SYMBOLS = 2, 5
 BLOCK = 16  # rows of a block
-READ_BITS = MOST_SYMBOLS - 1  # bits of a read in a row: the second bank without the bit of its own symbol
+DIGIT_BITS = MOST_SYMBOLS - 1  # bits of a read in a row: the second bank without the bit of its own symbol
 
 
 class Random:
@@ -80,13 +80,13 @@ def search(K, counts, random, mate):
 
 
 def row(K, counts, mate):
-    """The pairs in the order of a plan, packed: the second bank of read n, without the bit of its symbol, at bit READ_BITS * n."""
+    """The pairs in the order of a plan, packed: the second bank of read n, without the bit of its symbol, at bit DIGIT_BITS * n."""
     word = n = 0
     for p in range(K):
         for a in range(1, 1 << K):
             if a >> p & 1 and mate[a] == a ^ 1 << p:
                 b = mate[a]
-                word |= (b % (1 << p) + (b >> p + 1 << p)) << READ_BITS * n
+                word |= (b % (1 << p) + (b >> p + 1 << p)) << DIGIT_BITS * n
                 n += 1
     assert n == sum(counts)
     return word

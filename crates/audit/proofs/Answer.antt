@@ -1,24 +1,25 @@
 -- The audit's answer, from what its parts say.
 use mathlib.Core.Path.{_≡_, refl, sym, ap, _∙_}
+use mathlib.Core.Logic.{_↔_}
 use mathlib.Core.Bool.{Bool, true, false, _&&_, and-false, false≢true}
-use mathlib.Core.List.{List}
+use mathlib.Core.List.{List, [], _∷_}
 use Prim.Native.Nat.{ℕ, _+_, _/_, _%_, _≤_, _<_}
 use native.Mathlib.Omega.{arith}
-use borrow.Author.Tests.{leb-true, leb-false, eq-eqb, ne-eqb}
+use borrow.Author.Tests.{le-leb, leb-true, leb-false, eq-eqb, ne-eqb, eqb-true}
 use lib.Dec.{eqb}
 use lib.ListN.{length, getD}
 use Rattle.refusals.specs.declared.Verdict.{Verdict}
 use Rattle.refusals.specs.declared.Verdict.the-variants.{Accepted, Refused}
 use Rattle.refusals.proofs.Verdicts.{first-accepted, next-accepted, check-passed}
-use Rattle.simplex.specs.Shape.{SymbolsInRange, limitOf}
+use Rattle.simplex.specs.Shape.{leastSymbols, mostSymbols, SymbolsInRange, limitOf}
 use Rattle.simplex.specs.Limit.{total}
 use Rattle.audit.specs.declared.Rest.{Rest}
 use Rattle.audit.specs.declared.Audited.the-variants.{Yes, No, Refused as NotAudited}
-use Rattle.audit.specs.Plan.{isPlan}
-use Rattle.audit.specs.Audit.{countsRefusal, pairsOf, isPlanOf, restOf, answer, auditOf}
-use Rattle.audit.proofs.Reading.{both}
+use Rattle.audit.specs.Plan.{Pair, isPlan}
+use Rattle.audit.specs.Audit.{countsRefusal, pairsOf, isPlanOf, restOf, answer, auditOf, RequestOf, bytesOf, PlanIn}
+use Rattle.audit.proofs.Reading.{both, sound, complete}
 use Rattle.audit.proofs.Served.{limit}
-use Rattle.audit.proofs.Requests.{all-zero}
+use Rattle.audit.proofs.Requests.{all-zero, zero-all}
 use Rattle.audit.proofs.Walk.{not-as-many}
 
 -- where the counts are not refused, both checks are passed
@@ -63,14 +64,48 @@ module _ (room : ℕ) (counts : List ℕ) (r : Rest) (e : r ≡ restOf room coun
   pub past : r .fits ≡ false → room < total counts
   past f = leb-false (total counts) room (sym (ap (λ (x : Rest). x .fits) e) ∙ f)
 
--- what is no plan gets no yes
-yes-plan : (v : Verdict) (t : Bool) → answer v t ≡ Yes → t ≡ true
-yes-plan Accepted true e = refl
-yes-plan Accepted false e = absurd (let z : _≡_ {A = ℕ} 0 1 = cc in omega arith)
-yes-plan (Refused number place) t e = absurd (let z : _≡_ {A = ℕ} 0 1 = cc in omega arith)
+-- ---- yes
 
-pub never : (K : ℕ) (counts bytes : List ℕ) → limitOf K < total counts → auditOf K counts bytes ≡ Yes → ⊥
-unfolding auditOf
-never K counts bytes h e =
-    let plan = both (eqb (length bytes % 2) 0) (isPlan K counts (pairsOf bytes)) .0 (yes-plan (countsRefusal K counts) (isPlanOf K counts bytes) e) .1 in
-    false≢true (sym (limit K counts (pairsOf bytes) h) ∙ plan)
+yes-parts : (v : Verdict) (t : Bool) → answer v t ≡ Yes → (v ≡ Accepted) × (t ≡ true)
+yes-parts Accepted true e = (refl, refl)
+yes-parts Accepted false e = absurd (let z : _≡_ {A = ℕ} 0 1 = cc in omega arith)
+yes-parts (Refused number place) t e = absurd (let z : _≡_ {A = ℕ} 0 1 = cc in omega arith)
+
+module _ (K : ℕ) (counts : List ℕ) where
+  pub request : length counts ≡ mostSymbols → countsRefusal K counts ≡ Accepted → RequestOf K counts
+  request n e = record { symbols = in-range K counts e; size = n; beyond = beyond-zero K counts e }
+
+  pub accepted : RequestOf K counts → countsRefusal K counts ≡ Accepted
+  accepted r = rw (le-leb leastSymbols K (r .symbols .least), le-leb K mostSymbols (r .symbols .most), zero-all K counts (r .beyond))
+
+  module _ (bytes : List ℕ) where
+    tests : auditOf K counts bytes ≡ Yes → (countsRefusal K counts ≡ Accepted) × (length bytes % 2 ≡ 0) × (isPlan K counts (pairsOf bytes) ≡ true)
+    unfolding auditOf
+    tests e =
+        let p = yes-parts (countsRefusal K counts) (isPlanOf K counts bytes) e in (
+          p .0,
+          eqb-true (length bytes % 2) 0 (left (eqb (length bytes % 2) 0) (isPlan K counts (pairsOf bytes)) (p .1)),
+          right (eqb (length bytes % 2) 0) (isPlan K counts (pairsOf bytes)) (p .1),
+        )
+
+    pub says-yes : countsRefusal K counts ≡ Accepted → length bytes % 2 ≡ 0 → isPlan K counts (pairsOf bytes) ≡ true → auditOf K counts bytes ≡ Yes
+    unfolding auditOf
+    says-yes e h p = rw (e, eq-eqb (length bytes % 2) 0 h, p)
+
+    pub yes : length counts ≡ mostSymbols → (auditOf K counts bytes ≡ Yes) ↔ PlanIn K counts bytes
+    yes n = (
+      λ e. let t = tests e in record { request = request n (t .0); even = t .1; plan = sound K counts (pairsOf bytes) (t .2) },
+      λ p. says-yes (accepted (p .request)) (p .even) (complete K counts (pairsOf bytes) (p .plan)),
+    )
+
+    pub never : limitOf K < total counts → auditOf K counts bytes ≡ Yes → ⊥
+    never h e = false≢true (sym (limit K counts (pairsOf bytes) h) ∙ tests e .2)
+
+-- the bytes of pairs stand for them
+pub pairs-bytes : (pairs : List Pair) → pairsOf (bytesOf pairs) ≡ pairs
+pairs-bytes [] = refl
+pairs-bytes (p ∷ pairs) = ap (λ (ps : List Pair). p ∷ ps) (pairs-bytes pairs)
+
+pub even-bytes : (pairs : List Pair) → length (bytesOf pairs) % 2 ≡ 0
+even-bytes [] = refl
+even-bytes (p ∷ pairs) = omega (arith, even-bytes pairs)

@@ -1,6 +1,5 @@
 -- The laws that the proofs of this crate, and of those above it, cite.
 pub mod Places
-pub mod Grouped
 pub mod Reading
 pub mod Served
 pub mod Requests

@@ -13,7 +13,7 @@ use Rattle.cells.proofs.Digits.{xor-assoc}
 use Rattle.simplex.specs.Code.{Banks, bit}
 use Rattle.simplex.proofs.Bits.{bit-added, bit-other, added-xor}
 use Rattle.audit.specs.Plan.{opens, among}
-use Rattle.audit.specs.Audit.{marked}
+use Rattle.audit.specs.Parts.{marked}
 
 -- ---- a power of 2 added where the bit is 0
 

@@ -1,17 +1,17 @@
 -- A plan serves its reads, by the banks that its pairs open. So there is none past the limit.
 use mathlib.Core.Path.{_≡_, refl, sym, ap, _∙_}
 use mathlib.Core.Logic.{inl, inr}
-use mathlib.Core.Bool.{Bool, true, false}
+use mathlib.Core.Bool.{Bool, true, false, false≢true}
 use mathlib.Core.List.{List, [], _∷_, map}
-use Prim.Native.Nat.{ℕ, zero, suc, _≤_, _<_, suc-le-suc}
+use Prim.Native.Nat.{ℕ, zero, suc, _-_, _≤_, _<_, suc-le-suc}
 use native.Mathlib.Nat.{le-of-suc-le-suc, le-refl, lt-of-not-le, not-suc-le-zero}
-use native.Mathlib.Omega.{arith}
+use native.Mathlib.Omega.{arith, by-contra}
 use lib.Bits.{bitXor, xor-lt, xor-zero-r}
 use lib.Pow.{pow-mono, lt-of-le-ones}
 use lib.ListN.{length, getD, length-map}
-use Rattle.simplex.specs.Shape.{banksOf, limitOf}
+use Rattle.simplex.specs.Shape.{mostSymbols, mostPairs, banksOf, limitOf}
 use Rattle.simplex.specs.Code.{xorOfNumbers, Yields}
-use Rattle.simplex.specs.Limit.{total, readsOf, In, Servable}
+use Rattle.simplex.specs.Limit.{total, readsOf, In, ServedBy}
 use Rattle.simplex.proofs.Banks.{yields}
 use Rattle.simplex.proofs.Limit.{the-limit, fails-yields}
 use Rattle.simplex.proofs.Requests.{length-reads}
@@ -50,9 +50,8 @@ in-set [] n b i = absurd i
 in-set (p ∷ pairs) zero b i = (omega arith, i)
 in-set (p ∷ pairs) (suc n) b i = let t = in-set pairs n b i in (suc-le-suc (t .0), t .1)
 
-pub served : (K P : ℕ) (counts : List ℕ) (pairs : List Pair) → IsPlan K counts pairs → Servable K P (readsOf counts)
+pub served : (K P : ℕ) (counts : List ℕ) (pairs : List Pair) → IsPlan K counts pairs → ServedBy K P (readsOf counts) (map opened pairs)
 served K P counts pairs plan = record {
-  sets = map opened pairs;
   apart = record {
     one-each = length-map pairs opened ∙ plan .one-each ∙ sym (length-reads counts);
     of-group = λ n b i.
@@ -76,5 +75,13 @@ limit K counts pairs many = go (isPlan K counts pairs) refl
     go false e = e
     go true e =
         let s = served K 1 counts pairs (sound K counts pairs e) in
-        let t = the-limit K 1 counts (s .sets) (le-refl 1) many (s .apart) in
-        absurd (fails-yields K 1 (getD (s .sets) (t .0) []) (getD (readsOf counts) (t .0) 0) (t .2) (s .yields (t .0) (t .1)))
+        let t = the-limit K 1 counts (map opened pairs) (le-refl 1) many (s .apart) in
+        absurd (fails-yields K 1 (getD (map opened pairs) (t .0) []) (getD (readsOf counts) (t .0) 0) (t .2) (s .yields (t .0) (t .1)))
+
+pub few : (K : ℕ) (counts : List ℕ) (pairs : List Pair) → K ≤ mostSymbols → isPlan K counts pairs ≡ true → length pairs ≤ mostPairs
+few K counts pairs h e =
+    by-contra (length pairs) mostPairs
+    (λ (many : mostPairs < length pairs).
+    let more : limitOf K < total counts =
+    omega (arith, sound K counts pairs e .one-each, pow-mono {i = K - 1} {j = mostSymbols - 1} (omega arith)) in
+    absurd (false≢true (sym (limit K counts pairs more) ∙ e)))

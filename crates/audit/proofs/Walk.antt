@@ -12,7 +12,8 @@ use Rattle.simplex.specs.Code.{Banks, bit}
 use Rattle.simplex.specs.Limit.{total, readsOf}
 use Rattle.simplex.proofs.Requests.{length-reads}
 use Rattle.audit.specs.Plan.{Pair, opens, opened, serves, servesAll, banksOpened, among, noneTwice, isPlan}
-use Rattle.audit.specs.Audit.{pairsOf, marked}
+use Rattle.audit.specs.Audit.{pairsOf}
+use Rattle.audit.specs.Parts.{marked}
 use Rattle.audit.proofs.Reading.{serves-sound}
 use Rattle.audit.proofs.Marks.{Marks, no-marks, free, still-free, more-pair}
 use Rattle.audit.proofs.Pairs.{length-pairs, pairIn, pair-at}

@@ -1,19 +1,21 @@
 -- The audit: whether bytes are a plan for the counts.
+use mathlib.Core.Path.{_≡_}
 use mathlib.Core.Bool.{Bool, true, false, _&&_}
 use mathlib.Core.List.{List, [], _∷_}
-use Prim.Native.Nat.{ℕ, zero, suc, _+_, _-_, _%_, _^_}
+use Prim.Native.Nat.{ℕ, _-_, _%_, _≤_}
 use lib.Dec.{leb, eqb}
-use lib.ListN.{length, drop}
+use lib.ListN.{length, getD, drop}
 use Rattle.refusals.specs.declared.Verdict.{Verdict}
 use Rattle.refusals.specs.declared.Verdict.the-variants.{Accepted, Refused}
 use Rattle.refusals.specs.Verdict.{check, _then_}
-use Rattle.simplex.specs.Shape.{leastSymbols, mostSymbols}
+use Rattle.simplex.specs.Shape.{leastSymbols, mostSymbols, SymbolsInRange}
 use Rattle.simplex.specs.Limit.{total}
-use Rattle.audit.specs.Plan.{Pair, isPlan}
+use Rattle.audit.specs.Plan.{Pair, isPlan, IsPlan}
 use Rattle.audit.specs.declared.Rest.{Rest}
 use Rattle.audit.specs.declared.Audited.{Audited}
 use Rattle.audit.specs.declared.Audited.the-variants.{Yes, No, Refused as NotAudited}
 
+-- Every count is 0.
 abbrev pub allZero : List ℕ → Bool
 allZero [] = true
 allZero (c ∷ counts) = eqb c 0 && allZero counts
@@ -22,16 +24,28 @@ allZero (c ∷ counts) = eqb c 0 && allZero counts
 abbrev pub countsRefusal : ℕ → List ℕ → Verdict
 countsRefusal K counts = check 1 0 (leb leastSymbols K && leb K mostSymbols) then check 11 0 (allZero (drop K counts))
 
+-- A request vector of a group of K symbols, in words: five counts, those from K on being 0.
+pub record RequestOf (K : ℕ) (counts : List ℕ) : Type 0 where
+  pub symbols : SymbolsInRange K
+  pub size : length counts ≡ mostSymbols
+  pub beyond : (i : ℕ) → K ≤ i → getD counts i 0 ≡ 0
+
 -- The pairs that bytes stand for, two bytes each: a, then b.
 abbrev pub pairsOf : List ℕ → List Pair
 pairsOf [] = []
 pairsOf (a ∷ []) = []
 pairsOf (a ∷ b ∷ bytes) = record { a = a; b = b } ∷ pairsOf bytes
 
+-- The bytes of some pairs.
+abbrev pub bytesOf : List Pair → List ℕ
+bytesOf [] = []
+bytesOf (p ∷ pairs) = p .a ∷ p .b ∷ bytesOf pairs
+
 -- An odd count of bytes is no plan.
 abbrev pub isPlanOf : ℕ → List ℕ → List ℕ → Bool
 isPlanOf K counts bytes = eqb (length bytes % 2) 0 && isPlan K counts (pairsOf bytes)
 
+-- A refusal, or else yes or no.
 abbrev pub answer : Verdict → Bool → Audited
 answer Accepted true = Yes
 answer Accepted false = No
@@ -41,11 +55,12 @@ answer (Refused number place) plan = NotAudited number place
 unfoldable pub auditOf : ℕ → List ℕ → List ℕ → Audited
 auditOf K counts bytes = answer (countsRefusal K counts) (isPlanOf K counts bytes)
 
--- What the counts leave of a number.
+-- When it says yes, in words.
+pub record PlanIn (K : ℕ) (counts bytes : List ℕ) : Type 0 where
+  pub request : RequestOf K counts
+  pub even : length bytes % 2 ≡ 0
+  pub plan : IsPlan K counts (pairsOf bytes)
+
+-- What the counts leave of a number: nothing where they total more.
 abbrev pub restOf : ℕ → List ℕ → Rest
 restOf room counts = record { fits = leb (total counts) room; left = room - total counts }
-
--- How the audit marks the banks that it has met: bank b by bit b of a number. Bank 0 stands for no bank.
-abbrev pub marked : ℕ → ℕ → ℕ
-marked set zero = set
-marked set (suc b) = set + 2 ^ suc b

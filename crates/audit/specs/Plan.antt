@@ -18,6 +18,7 @@ pub record Pair : Type 0 where
 abbrev pub noPair : Pair
 noPair = record { a = 0; b = 0 }
 
+-- The banks that it opens.
 abbrev pub opens : ℕ → ℕ → Banks
 opens a zero = a ∷ []
 opens a (suc b) = a ∷ suc b ∷ []
@@ -41,10 +42,12 @@ abbrev pub banksOpened : List Pair → Banks
 banksOpened [] = []
 banksOpened (p ∷ pairs) = opened p ++ banksOpened pairs
 
+-- Bank b is among these.
 abbrev pub among : ℕ → Banks → Bool
 among b [] = false
 among b (x ∷ banks) = eqb b x || among b banks
 
+-- None of the banks is there twice.
 abbrev pub noneTwice : Banks → Bool
 noneTwice [] = true
 noneTwice (b ∷ banks) = not (among b banks) && noneTwice banks

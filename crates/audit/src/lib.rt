@@ -7,7 +7,8 @@ ghost use Rattle.simplex.specs.Code.{bit};
 ghost use Rattle.simplex.specs.Shape.{SymbolsInRange, mostSymbols};
 ghost use Rattle.simplex.specs.Limit.{total, readsOf};
 ghost use Rattle.audit.specs.Plan.{serves, isPlan};
-ghost use Rattle.audit.specs.Audit.{countsRefusal, restOf, pairsOf, auditOf, marked};
+ghost use Rattle.audit.specs.Audit.{countsRefusal, restOf, pairsOf, auditOf};
+ghost use Rattle.audit.specs.Parts.{marked};
 ghost use Rattle.audit.specs.Laws.{ThePlans};
 use refusals::Verdict;
 use simplex::LEAST_SYMBOLS;
@@ -20,7 +21,7 @@ pub enum Audited {
     Refused(u8, usize),
 }
 
-// Whether counts total no more than a number, and what they leave of it.
+// Whether counts total no more than a number, and what they leave of it: nothing where they total more.
 pub struct Rest {
     pub fits: bool,
     pub left: usize,
@@ -98,7 +99,7 @@ fn serves_symbol(k: usize, i: usize, a: usize, b: usize) -> bool
     a ^ b == 1 << i
 }
 
-// Whether bank b is marked in a set of banks: bit b is 1. No set has a bank 0.
+// Whether bank b is in a set of banks: bit b is 1.
 fn is_marked(set: u64, b: usize) -> bool
     requires { ⌜ b < 64 ⌝ }
     ensures { λ r. ⌜ r ≡ eqb (bit set b) 1 ⌝ }
@@ -106,7 +107,7 @@ fn is_marked(set: u64, b: usize) -> bool
     (set >> b) % 2 == 1
 }
 
-// The set with bank b, which it does not have. Where b is 0 there is no bank to mark.
+// The set with bank b put in, which it does not have. Bank 0 is no bank.
 fn mark(set: u64, b: usize) -> u64
     requires { ⌜ (b < 64) × (bit set b ≡ 0) ⌝ }
     ensures { λ r. ⌜ r ≡ marked set b ⌝ }
@@ -140,7 +141,7 @@ fn audit_pairs(k: usize, counts: [usize; MOST_SYMBOLS], bytes: &[u8]) -> bool
     true
 }
 
-// Answers whether the bytes are a plan for the counts, in a group of k symbols: two bytes a pair.
+// Audits a plan in a group of k symbols: refused with 1 or 11, or whether the bytes, two for each pair, are a plan for the counts.
 pub fn audit(k: usize, counts: [usize; MOST_SYMBOLS], bytes: &[u8]) -> Audited
     ensures { λ r. ⌜ r ≡ auditOf k counts (now (bytes .entry)) ⌝ }
 {

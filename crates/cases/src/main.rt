@@ -1,8 +1,9 @@
 // Plans requests, and audits the plans. First the requests of standard input, one a line: K and five counts. Then every request there is, of
 // every K, that totals at most one read more than the limit.
 //
-// The stored output was worked out by other means. With L = 2^(K-1), C(L+K, K) requests total at most L and ask K * C(L+K, K+1) reads, and
-// C(L+K, K-1) total L + 1. tools/cases.py computes these, and judges each plan and refusal of the first part by the words of the rules.
+// What the stored output should be was worked out by other means. With L = 2^(K-1), C(L+K, K) requests total at most L and ask K * C(L+K, K+1)
+// reads, and C(L+K, K-1) total L + 1. tools/cases.py computes these, and judges each plan and refusal of the first part by the words of the rules:
+// which plan a request gets is free.
 ghost use Prim.Native.Nat.{_≤_, _<_};
 ghost use Rattle.simplex.specs.Shape.{mostSymbols, mostPairs};
 use audit::Audited;
@@ -113,9 +114,11 @@ fn show(k: usize, counts: [usize; MOST_SYMBOLS]) {
                 text(b"; the audit says no\n");
             }
         }
-        Verdict::Refused(refusal, _place) => {
+        Verdict::Refused(refusal, place) => {
             text(b" refused ");
             number(refusal as u64);
+            text(b", place ");
+            number(place as u64);
             text(b"\n");
         }
     }
@@ -204,7 +207,7 @@ fn print_tally(k: usize, tally: Tally) {
     text(b"\n");
 }
 
-// A number with one more decimal digit. One that would not fit is the largest.
+// A number with one more decimal digit; one that may not fit becomes the largest.
 fn with_digit(n: usize, digit: usize) -> usize
     requires { ⌜ digit < 10 ⌝ }
 {

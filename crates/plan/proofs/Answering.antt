@@ -1,50 +1,73 @@
 -- The planner's answer, from what its parts say.
-use mathlib.Core.Path.{_≡_}
+use mathlib.Core.Path.{_≡_, sym, ap, _∙_, subst}
+use mathlib.Core.Logic.{_↔_}
 use mathlib.Core.Bool.{true, false}
 use mathlib.Core.List.{List, []}
 use Prim.Native.Nat.{ℕ}
-use borrow.Author.Tests.{leb-true}
+use borrow.Author.Tests.{le-leb, leb-true}
 use lib.Dec.{leb}
 use lib.ListN.{length}
+use Rattle.refusals.specs.declared.Verdict.{Verdict}
 use Rattle.refusals.specs.declared.Verdict.the-variants.{Accepted, Refused}
 use Rattle.refusals.specs.Verdict.{check}
 use Rattle.refusals.proofs.Verdicts.{first-accepted, next-accepted, check-passed}
 use Rattle.simplex.specs.Shape.{mostSymbols, limitOf}
 use Rattle.simplex.specs.Limit.{total}
-use Rattle.audit.specs.Plan.{isPlan}
-use Rattle.audit.specs.Audit.{countsRefusal}
-use Rattle.audit.proofs.Answer.{in-range, beyond-zero}
+use Rattle.audit.specs.Plan.{Pair, isPlan}
+use Rattle.audit.specs.Audit.{countsRefusal, bytesOf, auditOf}
+use Rattle.audit.proofs.Served.{few}
+use Rattle.audit.proofs.Answer.{request, accepted, says-yes, pairs-bytes, even-bytes}
+use Rattle.plan.specs.declared.Planned.{Planned}
 use Rattle.plan.specs.Finding.{planOf}
-use Rattle.plan.specs.Planned.{planRefusal, stored, planned}
+use Rattle.plan.specs.Planned.{planRefusal, stored, pairsIf, planAnswer, PlanFor}
 use Rattle.plan.specs.Laws.{WithinLimit}
-use Rattle.plan.proofs.Planning.{passes}
+use Rattle.plan.proofs.Planning.{is-plan, passes}
+use Rattle.plan.proofs.Storing.{read-back}
 
 module _ (K : ℕ) (counts : List ℕ) where
   pub refused : (number place : ℕ) → countsRefusal K counts ≡ Refused number place
-      → record { verdict = Refused number place; plan = stored [] } ≡ planned K counts
-  unfolding planned planRefusal
+      → record { verdict = Refused number place; plan = stored [] } ≡ planAnswer K counts
+  unfolding planAnswer planRefusal
   refused number place e = rw e
 
   module _ (e : countsRefusal K counts ≡ Accepted) where
-    pub too-many : leb (total counts) (limitOf K) ≡ false → record { verdict = Refused 12 0; plan = stored [] } ≡ planned K counts
-    unfolding planned planRefusal
-    too-many f = rw (e, f)
-
-    pub served : leb (total counts) (limitOf K) ≡ true → record { verdict = Accepted; plan = stored (planOf K counts) } ≡ planned K counts
-    unfolding planned planRefusal
+    pub served : leb (total counts) (limitOf K) ≡ true → record { verdict = Accepted; plan = stored (planOf K counts) } ≡ planAnswer K counts
+    unfolding planAnswer planRefusal
     served f = rw (e, f)
 
-    pub within : length counts ≡ mostSymbols → leb (total counts) (limitOf K) ≡ true → WithinLimit K counts
-    within n f = record {
-      symbols = in-range K counts e;
-      size = n;
-      beyond = beyond-zero K counts e;
-      total-most = leb-true (total counts) (limitOf K) f;
-    }
+    pub too-many : leb (total counts) (limitOf K) ≡ false → record { verdict = Refused 12 0; plan = stored [] } ≡ planAnswer K counts
+    unfolding planAnswer planRefusal
+    too-many f = rw (e, f)
 
-  pub valid : length counts ≡ mostSymbols → planRefusal K counts ≡ Accepted → isPlan K counts (planOf K counts) ≡ true
+    pub within : length counts ≡ mostSymbols → leb (total counts) (limitOf K) ≡ true → WithinLimit K counts
+    within n f = record { request = request K counts n e; total-most = leb-true (total counts) (limitOf K) f }
+
+  pub exactly : length counts ≡ mostSymbols → (planRefusal K counts ≡ Accepted) ↔ WithinLimit K counts
   unfolding planRefusal
-  valid n e =
-      let formed = first-accepted (countsRefusal K counts) (check 12 0 (leb (total counts) (limitOf K))) e in
-      let fits = check-passed 12 0 (leb (total counts) (limitOf K)) (next-accepted (countsRefusal K counts) (check 12 0 (leb (total counts) (limitOf K))) e) in
-      passes K counts (within formed n fits)
+  exactly n = (
+    λ e.
+        let last : Verdict = check 12 0 (leb (total counts) (limitOf K)) in
+        within (first-accepted (countsRefusal K counts) last e) n
+        (check-passed 12 0 (leb (total counts) (limitOf K)) (next-accepted (countsRefusal K counts) last e)),
+    λ w. rw (accepted K counts (w .request), le-leb (total counts) (limitOf K) (w .total-most)),
+  )
+
+  -- the plan of an accepted request, read back from its arrays
+  pub plan-for : length counts ≡ mostSymbols → planRefusal K counts ≡ Accepted → PlanFor K counts (stored (planOf K counts))
+  plan-for n e =
+      let w = exactly n .0 e in
+      let pairs = planOf K counts in
+      let fits = few K counts pairs (w .request .symbols .most) (passes K counts w) in
+      record {
+        reads = is-plan K counts w .one-each;
+        audited = ap (λ (ps : List Pair). auditOf K counts (bytesOf ps)) (read-back pairs fits)
+            ∙ says-yes K counts (bytesOf pairs) (accepted K counts (w .request)) (even-bytes pairs)
+            (ap (isPlan K counts) (pairs-bytes pairs) ∙ passes K counts w);
+      }
+
+  -- so an answer that is the definition's has such a plan
+  pub valid : length counts ≡ mostSymbols → (r : Planned) → r ≡ planAnswer K counts → planRefusal K counts ≡ Accepted → PlanFor K counts (r .plan)
+  unfolding planAnswer
+  valid n r e a =
+      let same : r .plan ≡ stored (planOf K counts) = ap (λ (x : Planned). x .plan) e ∙ ap (λ (v : Verdict). stored (pairsIf v (planOf K counts))) a in
+      subst (PlanFor K counts) (sym same) (plan-for n a)

@@ -1,16 +1,18 @@
 -- What the planner answers.
+use mathlib.Core.Path.{_≡_}
 use mathlib.Core.List.{List, []}
 use Prim.Native.Nat.{ℕ}
 use lib.Dec.{leb}
-use lib.ListN.{length}
+use lib.ListN.{length, getD}
 use Rattle.refusals.specs.declared.Verdict.{Verdict}
 use Rattle.refusals.specs.declared.Verdict.the-variants.{Accepted, Refused}
 use Rattle.refusals.specs.Verdict.{check, _then_}
 use Rattle.simplex.specs.Shape.{mostPairs, limitOf}
 use Rattle.simplex.specs.Limit.{total}
+use Rattle.audit.specs.declared.Audited.the-variants.{Yes}
 use Rattle.audit.specs.Plan.{Pair, pairAt}
-use Rattle.audit.specs.Grouped.{listOf}
-use Rattle.audit.specs.Audit.{countsRefusal}
+use Rattle.audit.specs.Audit.{countsRefusal, bytesOf, auditOf}
+use Rattle.table.specs.Grouped.{listOf}
 use Rattle.plan.specs.declared.Plan.{Plan}
 use Rattle.plan.specs.declared.Planned.{Planned}
 use Rattle.plan.specs.Finding.{planOf}
@@ -33,5 +35,15 @@ abbrev pub pairsIf : Verdict → List Pair → List Pair
 pairsIf Accepted pairs = pairs
 pairsIf (Refused number place) pairs = []
 
-unfoldable pub planned : ℕ → List ℕ → Planned
-planned K counts = record { verdict = planRefusal K counts; plan = stored (pairsIf (planRefusal K counts) (planOf K counts)) }
+-- What the planner answers: the verdict, and the pairs of the plan, if there is one.
+unfoldable pub planAnswer : ℕ → List ℕ → Planned
+planAnswer K counts = record { verdict = planRefusal K counts; plan = stored (pairsIf (planRefusal K counts) (planOf K counts)) }
+
+-- The pairs of a plan, read from its arrays.
+abbrev pub pairsIn : Plan → List Pair
+pairsIn plan = listOf (λ n. record { a = getD (plan .first) n 0; b = getD (plan .second) n 0 }) 0 (plan .len)
+
+-- A plan that holds for the counts: there is a pair for each read, and the audit says yes to the pairs.
+pub record PlanFor (K : ℕ) (counts : List ℕ) (plan : Plan) : Type 0 where
+  pub reads : plan .len ≡ total counts
+  pub audited : auditOf K counts (bytesOf (pairsIn plan)) ≡ Yes

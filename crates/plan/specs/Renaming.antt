@@ -5,7 +5,7 @@ use Prim.Native.Nat.{ℕ, zero, suc, _+_, _*_, _^_, _≤_, _<_}
 use lib.ListN.{getD}
 use Rattle.simplex.specs.Code.{bit}
 use Rattle.audit.specs.Plan.{Pair, start, pairAt, IsPlan}
-use Rattle.audit.specs.Grouped.{pairWith, grouped}
+use Rattle.table.specs.Grouped.{pairWith, grouped}
 
 -- A permutation of the symbols below K.
 pub record Permutes (K : ℕ) (to : ℕ → ℕ) : Type 0 where

@@ -38,7 +38,7 @@ without-in x (c ∷ banks) t b (inr i) = without-in x banks (and-right (fits x c
 
 -- the reads of symbols x and y: the first by its systematic bank, the second by the banks of t
 two-sets : (P x y : ℕ) (t : Banks) → x < 2 → y < 2 → T (without (2 ^ x) t) → xorOfNumbers t ≡ 2 ^ y → Servable 2 P (x ∷ y ∷ [])
-two-sets P x y t hx hy ok e = record { sets = sets; apart = record { one-each = refl; of-group = group; disjoint = disjoint }; yields = served }
+two-sets P x y t hx hy ok e = record { sets = sets; served = record { apart = record { one-each = refl; of-group = group; disjoint = disjoint }; yields = served } }
   where
     sets : List Banks
     sets = (2 ^ x ∷ []) ∷ t ∷ []

@@ -55,11 +55,15 @@ LimitFor K P reads = (sets : List Banks) → limitOf K < length reads → Disjoi
 abbrev pub LimitOfReads : Type 0
 LimitOfReads = (K P : ℕ) (reads : List ℕ) → 1 ≤ P → LimitFor K P reads
 
--- The reads can be served: by bank sets of the group, one for each read, of which no two share a bank and each yields its read's symbol.
-pub record Servable (K P : ℕ) (reads : List ℕ) : Type 0 where
-  pub sets : List Banks
+-- The bank sets serve the reads: they are sets of the group, one for each read, no two share a bank, and each yields its read's symbol.
+pub record ServedBy (K P : ℕ) (reads : List ℕ) (sets : List Banks) : Type 0 where
   pub apart : DisjointSets K reads sets
   pub yields : (j : ℕ) → j < length reads → Yields K P (getD sets j []) (getD reads j 0)
+
+-- The reads can be served, by these sets.
+pub record Servable (K P : ℕ) (reads : List ℕ) : Type 0 where
+  pub sets : List Banks
+  pub served : ServedBy K P reads sets
 
 -- The limit is met where that needs no planner: at K = 2, by every request of that total, two reads of one symbol or one of each.
 abbrev pub LimitMet : Type 0

@@ -24,16 +24,16 @@ given false b e t = absurd (let z : _≡_ {A = ℕ} 0 1 = cc in omega arith)
 module _ (K : ℕ) (counts : List ℕ) (s : SortedRequest K counts) where
   tested : T (testOf K)
   tested =
-      let back : K - leastSymbols + leastSymbols ≡ K = omega (arith, s .symbols .least) in
+      let back : K - leastSymbols + leastSymbols ≡ K = omega (arith, s .request .symbols .least) in
       subst (λ (k : ℕ). T (testOf k)) back
-      (below-at (suc mostSymbols - leastSymbols) (λ (n : ℕ). testOf (n + leastSymbols)) test (K - leastSymbols) (omega (arith, s .symbols .most, s .symbols .least)))
+      (below-at (suc mostSymbols - leastSymbols) (λ (n : ℕ). testOf (n + leastSymbols)) test (K - leastSymbols) (omega (arith, s .request .symbols .most, s .request .symbols .least)))
 
   fits : T (rowFits K counts)
   fits =
-      given (allZero (drop K counts)) (rowFits K counts) (zero-all K counts (s .beyond))
+      given (allZero (drop K counts)) (rowFits K counts) (zero-all K counts (s .request .beyond))
       (everywhere-at (λ (c : List ℕ). not (allZero (drop K c)) || rowFits K c) (limitOf K) counts (s .falling)
       (subst (λ (t : ℕ). T (everywhere (λ (c : List ℕ). not (allZero (drop K c)) || rowFits K c) (length counts) (limitOf K) t)) (sym (s .full))
-      (subst (λ (n : ℕ). T (everywhere (λ (c : List ℕ). not (allZero (drop K c)) || rowFits K c) n (limitOf K) (limitOf K))) (sym (s .size)) tested)))
+      (subst (λ (n : ℕ). T (everywhere (λ (c : List ℕ). not (allZero (drop K c)) || rowFits K c) n (limitOf K) (limitOf K))) (sym (s .request .size)) tested)))
 
   pub within : T (inside counts (getD trie (K - leastSymbols) 0) (K - 2))
   unfolding rowFits

@@ -2,11 +2,12 @@
 use mathlib.Core.Path.{_≡_}
 use mathlib.Core.List.{List, [], _∷_}
 use Prim.Native.Nat.{ℕ, zero, suc, _+_, _*_, _-_, _/_, _%_, _^_, _≤_}
-use lib.ListN.{length, getD}
-use Rattle.simplex.specs.Shape.{leastSymbols, mostSymbols, SymbolsInRange, limitOf}
+use lib.ListN.{getD}
+use Rattle.simplex.specs.Shape.{leastSymbols, mostSymbols, limitOf}
 use Rattle.simplex.specs.Limit.{total}
 use Rattle.audit.specs.Plan.{Pair, start, IsPlan}
-use Rattle.audit.specs.Grouped.{pairWith, grouped}
+use Rattle.audit.specs.Audit.{RequestOf}
+use Rattle.table.specs.Grouped.{pairWith, grouped}
 use Rattle.table.specs.Rows.{blockRows, blocks, trie}
 
 -- Each count is at most the one before it, and the first at most this.
@@ -14,13 +15,11 @@ abbrev pub Falling : ℕ → List ℕ → Type 0
 Falling most [] = Unit {0}
 Falling most (c ∷ counts) = (c ≤ most) × Falling c counts
 
--- A sorted request: falling counts that total 2^(K-1), those from K on being 0.
+-- A sorted request: falling counts that total 2^(K-1).
 pub record SortedRequest (K : ℕ) (counts : List ℕ) : Type 0 where
-  pub symbols : SymbolsInRange K
-  pub size : length counts ≡ mostSymbols
+  pub request : RequestOf K counts
   pub falling : Falling (limitOf K) counts
   pub full : total counts ≡ limitOf K
-  pub beyond : (i : ℕ) → K ≤ i → getD counts i 0 ≡ 0
 
 -- The walk through the trie: n steps on from `at`, by the counts of symbols n + 1, n, .., 2.
 abbrev pub walk : List ℕ → ℕ → ℕ → ℕ

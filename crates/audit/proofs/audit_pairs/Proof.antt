@@ -10,7 +10,7 @@ use denote.Ref.{now}
 use Rattle.simplex.specs.Code.{bit}
 use Rattle.simplex.specs.Limit.{total}
 use Rattle.audit.specs.Plan.{Pair, serves}
-use Rattle.audit.specs.Audit.{marked}
+use Rattle.audit.specs.Parts.{marked}
 use Rattle.audit.proofs.Marks.{free, still-free}
 use Rattle.audit.proofs.Pairs.{banks-below, pairIn}
 use Rattle.audit.proofs.Walk.{met, From, Turn, none-yet, all-passed, not-served, first-met, second-met, one-more}

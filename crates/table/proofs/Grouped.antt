@@ -6,9 +6,9 @@ use native.Mathlib.Nat.{le-of-suc-le-suc, not-suc-le-zero}
 use native.Mathlib.Omega.{arith}
 use lib.ListN.{length, getD, length-append}
 use Rattle.simplex.specs.Limit.{total}
 use Rattle.audit.specs.Plan.{Pair, noPair, start, pairAt}
-use Rattle.audit.specs.Grouped.{listOf, grouped}
+use Rattle.table.specs.Grouped.{listOf, grouped}
 use Rattle.audit.proofs.Places.{in-first, in-rest}
 
 -- ---- the list of f j, f (j + 1), .., n of them
 
