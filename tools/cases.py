@@ -35,7 +35,8 @@ def tally(K):
     most = 2 ** (K - 1)
     within, above = comb(most + K, K), comb(most + K, K - 1)
     return (
-        f"K {K}: requests within the limit {within}, plans that the audit says yes to {within}, pairs in them {K * comb(most + K, K + 1)}; "
+        f"K {K}: requests within the limit {within}, plans that the audit says yes to {within}, pairs in them {K * comb(most + K, K + 1)}, "
+        f"exchanged and said no to {within - 1}; "
         f"requests of one read more {above}, refused 12 {above}"
     )
 
@@ -50,7 +51,7 @@ def is_right(request, line):
     return line == head + "".join(f" ({a},{b})" for a, b in pairs) + "; the audit says yes" and is_plan(K, counts, pairs)
 
 
-requests = [[int(n) for n in line.split()] for line in open(sys.argv[1])]
+requests = [[int(n) for n in line.split()] for line in open(sys.argv[1]) if line.strip()]
 lines = sys.stdin.read().splitlines()
 tallies = [tally(K) for K in range(2, MOST_SYMBOLS + 1)]
 wrong = [line for request, line in zip(requests, lines) if not is_right(request, line)]

@@ -1,10 +1,10 @@
 #!/usr/bin/env python3
-"""Measures the planner at K = 5 in one process with plain Rust of the same method and table and with the reads that a plan is for, and compares
-the plans with plain Rust's on every request.
+"""Measures the planner at K = 5 in one process with plain Rust of the same method and table (without the refusals) and with sixteen reads of two
+cells each, and compares the plans with plain Rust's on every request within the limit.
 
     python3 tools/plan_speed.py
 
-Needs rustc. It works in a scratch directory: a copy of the crates with exported functions added to `plan`.
+Needs rt and rustc. It works in a scratch directory: a copy of the crates with exported functions added to `plan`.
 """
 import pathlib
 import re
@@ -24,7 +24,7 @@ pub extern "C" fn proved_pair(k: usize, a: usize, b: usize, c: usize, d: usize, 
     if n < MOST_PAIRS {
         (first[n] % 64) as usize * 64 + (second[n] % 64) as usize
     } else {
-        0
+        plan.len
     }
 }
 
@@ -38,20 +38,20 @@ pub extern "C" fn proved_plan(k: usize, a: usize, b: usize, c: usize, d: usize, 
 }
 
 #[no_mangle]
-pub extern "C" fn proved_read(out: &mut [u8], store: &[u8], a: usize, b: usize) {
-    if out.len() < 1500 {
+pub extern "C" fn proved_read(out: &mut [u8], store: &[u8], a: usize, b: usize, p: usize) {
+    if out.len() < p {
         return;
     }
-    if store.len() < 46_500 {
+    if store.len() < p {
         return;
     }
-    if 45_000 < a {
+    if store.len() - p < a {
         return;
     }
-    if 45_000 < b {
+    if store.len() - p < b {
         return;
     }
-    cells::xor_cells(out, 0, store, a, b, 1500);
+    cells::xor_cells(out, 0, store, a, b, p);
 }
 """
 
@@ -62,7 +62,7 @@ use std::{hint::black_box, time::Instant};
 extern "C" {
     fn proved_pair(k: usize, a: usize, b: usize, c: usize, d: usize, e: usize, n: usize) -> usize;
     fn proved_plan(k: usize, a: usize, b: usize, c: usize, d: usize, e: usize) -> usize;
-    fn proved_read(out: *mut u8, out_len: usize, store: *const u8, store_len: usize, a: usize, b: usize);
+    fn proved_read(out: *mut u8, out_len: usize, store: *const u8, store_len: usize, a: usize, b: usize, p: usize);
 }
 
 static TRIE: &[u8] = &[@TRIE@];
@@ -108,6 +108,9 @@ fn plain_plan(k: usize, counts: [usize; 5]) -> Plan {
 
 fn plain_pair(k: usize, c: [usize; 5], n: usize) -> usize {
     let plan = plain_plan(k, c);
+    if n == 16 {
+        return c.iter().sum();
+    }
     plan.first[n] as usize * 64 + plan.second[n] as usize
 }
 
@@ -136,7 +139,7 @@ fn compare() -> usize {
                 rest /= limit + 1;
             }
             if counts.iter().sum::<usize>() <= limit {
-                assert!((0..16).all(|n| compared_pair(k, counts, n) == plain_pair(k, counts, n)));
+                assert!((0..=16).all(|n| compared_pair(k, counts, n) == plain_pair(k, counts, n)));
                 compared += 1;
             }
         }
@@ -144,10 +147,10 @@ fn compare() -> usize {
     compared
 }
 
-// Sixteen reads of 1,500 bytes, each the XOR of two of the 31 cells of a row (16 banks twice over, since a plan's own would be 31).
-fn serve(out: &mut [u8], store: &[u8]) {
+// Sixteen reads into one place of the output, each the XOR of two of the 31 cells of a row.
+fn serve(out: &mut [u8], store: &[u8], p: usize) {
     for n in 0..16 {
-        unsafe { proved_read(out.as_mut_ptr(), out.len(), store.as_ptr(), store.len(), n * 1500, (30 - n) * 1500) }
+        unsafe { proved_read(out.as_mut_ptr(), out.len(), store.as_ptr(), store.len(), n * p, (30 - n) * p, p) }
     }
 }
 
@@ -165,7 +168,7 @@ fn median(many: usize, mut work: impl FnMut(usize)) -> f64 {
 }
 
 fn main() {
-    println!("plans compared: {}, all the same", compare());
+    println!("requests within the limit: {}, all plans the same", compare());
     let (mut x, mut requests) = (88172645463325252u64, vec![]);
     for _ in 0..10_000 {
         let mut counts = [0; 5];
@@ -179,22 +182,25 @@ fn main() {
     }
     let proved_ns = median(requests.len(), |n| drop(black_box(proved(black_box(5), requests[n]))));
     let plain_ns = median(requests.len(), |n| drop(black_box(plain(black_box(5), requests[n]))));
-    let (mut out, store) = (vec![0u8; 1500], vec![1u8; 46_500]);
-    let serve_ns = median(1000, |_| serve(black_box(&mut out), black_box(&store)));
-    println!("K = 5, random requests of 16 reads, medians: a plan {proved_ns:.0} ns, in plain Rust {plain_ns:.0} ns; serving 16 reads of 1,500 bytes {serve_ns:.0} ns");
+    println!("K = 5, random requests of 16 reads, medians: a plan {proved_ns:.0} ns, in plain Rust {plain_ns:.0} ns");
+    for p in [64, 256, 1500] {
+        let (mut out, store) = (vec![0u8; p], vec![1u8; 31 * p]);
+        let serve_ns = median(1000, |_| serve(black_box(&mut out), black_box(&store), p));
+        println!("sixteen reads of two cells of {p} bytes: {serve_ns:.0} ns");
+    }
 }
 """
 
 
 def main():
-    rows = (ROOT / "crates" / "table" / "src" / "rows.rt").read_text()
+    rows = (ROOT / "crates" / "table" / "src" / "rows.rt").read_text(encoding="utf-8")
     trie = re.search(r"TRIE: \[u8; \d+\] = \[([\d,\s]*)\]", rows)[1]
     words = ",".join(re.findall(r"0x[0-9a-f]{16}", rows))
     with tempfile.TemporaryDirectory() as scratch:
         work = pathlib.Path(scratch)
         shutil.copy(ROOT / "crates.txt", work)
         shutil.copytree(ROOT / "crates", work / "crates")
-        with (work / "crates" / "plan" / "src" / "lib.rt").open("a") as source:
+        with (work / "crates" / "plan" / "src" / "lib.rt").open("a", encoding="utf-8") as source:
             source.write(EXPORTS)
         (work / "bench.rs").write_text(BENCH.replace("@TRIE@", trie).replace("@ROWS@", words))
         subprocess.run(["rt", "staticlib", "plan"], cwd=work, check=True, stdout=subprocess.DEVNULL)

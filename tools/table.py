@@ -6,11 +6,11 @@
 A row is a plan for one sorted request: falling counts that total 2^(K-1). The rows are found by a randomised search with a fixed seed, so
 every run writes the same files. Nothing rests on the search: whatever stands in the files, the prover tests every row and that none is missing.
 """
-import math
 import pathlib
 
 LEAST_SYMBOLS, MOST_SYMBOLS = 2, 5
 BLOCK = 16  # rows of a block
+CHANCE = {1: 1701240189117242, 2: 321322766291006, 3: 60690031188646, 4: 11462866226986}  # of a step that makes it so much worse, in 2^53
 DIGIT_BITS = MOST_SYMBOLS - 1  # bits of a read in a row: the second bank without the bit of its own symbol
 
 
@@ -31,8 +31,8 @@ class Random:
     def below(self, n):
         return (self.word() >> 16) % n
 
-    def fraction(self):
-        return (self.word() >> 11) / (1 << 53)
+    def bits(self, n):
+        return self.word() >> 64 - n
 
 
 def sorted_requests(total, symbols, most):
@@ -65,7 +65,7 @@ def search(K, counts, random, mate):
             continue
         n = 1 if turn else 2
         worse = sum(abs(have[s] + d - counts[s]) - abs(have[s] - counts[s]) for s, d in ((i, -n), (j, n)))
-        if worse > 0 and random.fraction() >= math.exp(-worse / 0.6):
+        if worse > 0 and random.bits(53) >= CHANCE[worse]:
             continue
         have[i] -= n
         have[j] += n
@@ -162,13 +162,13 @@ def main():
         "ghost use Rattle.table.specs.Rows.{blocks};\n\n"
         "// The rows of a block.\n"
         f"pub const BLOCK: usize = {BLOCK};\n\n"
-        "// Where the row of a request is.\n"
+        "// Where the row of a request is: by the walk of specs/Table.antt.\n"
         f"pub const TRIE: [u8; {len(entries)}] = [\n" + "".join(f"    {e},\n" for e in entries) + "];\n\n"
         "// Rows n * BLOCK and on. A match, because a constant array would be stored anew at each use.\n"
         "pub fn block(n: usize) -> [u64; BLOCK]\n"
         "    requires { ⌜ n < length blocks ⌝ }\n"
         "    ensures { λ r. ⌜ r ≡ getD blocks n [] ⌝ }\n"
-        "{\n    match n {\n" + arms + "    }\n}\n")
+        "{\n    match n {\n" + arms + "    }\n}\n", encoding="utf-8")
     (crate / "specs" / "Rows.antt").write_text(
         "-- The stored rows and their trie. Written by tools/table.py; nothing rests on how they were found.\n"
         "use mathlib.Core.List.{List, [], _∷_}\n"
@@ -178,8 +178,8 @@ def main():
         "-- The rows, in blocks.\n"
         "unfoldable pub blocks : List (List ℕ)\nblocks =\n"
         + "".join("    (" + lines(words[at:at + BLOCK], "    ", 4, " ∷").strip() + " []) ∷\n" for at in starts) + "    []\n\n"
-        "-- Where the row of a request is.\n"
-        "unfoldable pub trie : List ℕ\ntrie =\n" + lines([str(e) for e in entries], "    ", 16, " ∷") + "    []\n")
+        "-- Where the row of a request is: by the walk of specs/Table.antt.\n"
+        "unfoldable pub trie : List ℕ\ntrie =\n" + lines([str(e) for e in entries], "    ", 16, " ∷") + "    []\n", encoding="utf-8")
 
 
 if __name__ == "__main__":

@@ -1,4 +1,4 @@
--- What holds of every plan, for every K.
+-- What holds of every plan: for every K, but for the count of pairs.
 use mathlib.Core.Path.{_≡_}
 use mathlib.Core.Logic.{_↔_}
 use mathlib.Core.Bool.{true, false}
@@ -12,11 +12,11 @@ use Rattle.audit.specs.Plan.{Pair, opened, isPlan, IsPlan}
 use Rattle.audit.specs.Audit.{auditOf, PlanIn}
 
 -- words: the test passes exactly the lists of pairs that are a plan in words.
--- yes: an audit of five counts says yes exactly if they are a request, and the bytes are of even number and a plan for it.
+-- yes: an audit of five counts says yes exactly if they are a request, and the bytes are an even count and a plan for it.
 -- served: the banks that a plan's pairs open serve its reads.
 -- limit: no list of pairs is a plan for counts that total more than 2^(K-1).
 -- never: so an audit of such counts never says yes, whatever the bytes are.
--- few: a plan has at most sixteen pairs.
+-- few: where K is at most 5, a plan has at most sixteen pairs.
 pub record ThePlans : Type 0 where
   pub words : (K : ℕ) (counts : List ℕ) (pairs : List Pair) → (isPlan K counts pairs ≡ true) ↔ IsPlan K counts pairs
   pub yes : (K : ℕ) (counts bytes : List ℕ) → length counts ≡ mostSymbols → (auditOf K counts bytes ≡ Yes) ↔ PlanIn K counts bytes

@@ -1,9 +1,10 @@
-// Plans requests, and audits the plans. First the requests of standard input, one a line: K and five counts. Then every request there is, of
-// every K, that totals at most one read more than the limit.
+// Plans requests, and audits the plans. First the requests of standard input, one a line: K and five counts, with a space between. (Other
+// characters than digits, spaces and the line feed that ends a line are passed over.) Then every request there is, of every K, that totals at most
+// one read more than the limit.
 //
 // What the stored output should be was worked out by other means. With L = 2^(K-1), C(L+K, K) requests total at most L and ask K * C(L+K, K+1)
 // reads, and C(L+K, K-1) total L + 1. tools/cases.py computes these, and judges each plan and refusal of the first part by the words of the rules:
-// which plan a request gets is free.
+// which plan a request gets is free. All plans but that of no reads have a first pair.
 ghost use Prim.Native.Nat.{_≤_, _<_};
 ghost use Rattle.simplex.specs.Shape.{mostSymbols, mostPairs};
 use audit::Audited;
@@ -15,13 +16,14 @@ use simplex::MOST_PAIRS;
 use simplex::MOST_SYMBOLS;
 
 // What a run over many requests counts: those within the limit, the plans that the audit says yes to and their pairs, the requests of one read
-// more, and the refusals by number 12.
+// more, the refusals by number 12, and the plans, each with the banks of its first pair exchanged, that the audit says no to.
 struct Tally {
     within: u64,
     passed: u64,
     pairs: u64,
     above: u64,
     refused: u64,
+    denied: u64,
 }
 
 // The numbers of a line of standard input, and which of them is being read.
@@ -50,17 +52,44 @@ fn bytes_of(plan: Plan) -> [u8; 2 * MOST_PAIRS] {
     bytes
 }
 
-// Whether the audit says yes to a plan.
-fn is_passed(k: usize, counts: [usize; MOST_SYMBOLS], plan: Plan) -> bool {
+fn audit_of(k: usize, counts: [usize; MOST_SYMBOLS], plan: Plan) -> Audited {
     let bytes = bytes_of(plan);
     let len = plan.len;
     if MOST_PAIRS < len {
-        return false;
+        return Audited::No;
     }
-    let audited = audit::audit(k, counts, &bytes[..2 * len]);
+    audit::audit(k, counts, &bytes[..2 * len])
+}
+
+// Whether the audit says yes to a plan.
+fn is_passed(k: usize, counts: [usize; MOST_SYMBOLS], plan: Plan) -> bool {
+    let audited = audit_of(k, counts, plan);
     match audited {
         Audited::Yes => true,
         Audited::No => false,
+        Audited::Refused(_number, _place) => false,
+    }
+}
+
+// Whether the audit says no to a plan when the banks of its first pair are exchanged.
+fn is_denied(k: usize, counts: [usize; MOST_SYMBOLS], plan: Plan) -> bool {
+    let mut first = plan.first;
+    let mut second = plan.second;
+    let a = first[0];
+    first[0] = second[0];
+    second[0] = a;
+    let audited = audit_of(
+        k,
+        counts,
+        Plan {
+            first,
+            second,
+            len: plan.len,
+        },
+    );
+    match audited {
+        Audited::Yes => false,
+        Audited::No => true,
         Audited::Refused(_number, _place) => false,
     }
 }
@@ -146,6 +175,9 @@ fn count(tally: Tally, k: usize, counts: [usize; MOST_SYMBOLS], left: usize) -> 
                 next.passed = more(next.passed, 1);
                 next.pairs = more(next.pairs, plan.len as u64);
             }
+            if is_denied(k, counts, plan) {
+                next.denied = more(next.denied, 1);
+            }
         }
         Verdict::Refused(refusal, _place) => {
             if refusal == 12 {
@@ -169,8 +201,7 @@ fn request(x: usize, k: usize, base: usize) -> [usize; MOST_SYMBOLS]
     counts
 }
 
-// Every request of k symbols that totals at most one read more than the limit. They are among the `many`, (limit + 2)^k, whose counts are each
-// at most that.
+// Every request of k symbols that totals at most limit + 1. They are among the `many`, (limit + 2)^k, whose counts are each at most limit + 1.
 fn run(k: usize, limit: usize, many: usize)
     requires { ⌜ (k ≤ mostSymbols) × (limit ≤ mostPairs) ⌝ }
 {
@@ -180,6 +211,7 @@ fn run(k: usize, limit: usize, many: usize)
         passed: 0,
         above: 0,
         refused: 0,
+        denied: 0,
     };
     for x in 0..many {
         let counts = request(x, k, limit + 2);
@@ -200,6 +232,8 @@ fn print_tally(k: usize, tally: Tally) {
     number(tally.passed);
     text(b", pairs in them ");
     number(tally.pairs);
+    text(b", exchanged and said no to ");
+    number(tally.denied);
     text(b"; requests of one read more ");
     number(tally.above);
     text(b", refused 12 ");

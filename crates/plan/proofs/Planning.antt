@@ -8,7 +8,7 @@ use Rattle.audit.specs.Plan.{opened, isPlan, IsPlan}
 use Rattle.audit.proofs.Reading.{complete}
 use Rattle.audit.proofs.Served.{served}
 use Rattle.table.specs.Table.{rowOf, rowPairs}
-use Rattle.table.proofs.Found.{the-table}
+use Rattle.table.proofs.Found.{valid}
 use Rattle.plan.specs.Finding.{rank, sortedOf, planOf}
 use Rattle.plan.specs.Laws.{WithinLimit}
 use Rattle.plan.proofs.Ranking.{permutes}
@@ -19,7 +19,7 @@ pub is-plan : (K : ℕ) (counts : List ℕ) → WithinLimit K counts → IsPlan 
 unfolding planOf
 is-plan K counts w =
     renamed-plan K (rank K counts) (sortedOf K counts) counts (rowPairs (rowOf K (sortedOf K counts)) (sortedOf K counts)) (permutes counts K)
-    (the-table K (sortedOf K counts) (sorted-request K counts w)) (enough K counts w) (w .request .beyond)
+    (valid K (sortedOf K counts) (sorted-request K counts w)) (enough K counts w) (w .request .beyond)
 
 pub met : (K P : ℕ) (counts : List ℕ) → WithinLimit K counts → Servable K P (readsOf counts)
 met K P counts w = record { sets = map opened (planOf K counts); served = served K P counts (planOf K counts) (is-plan K counts w) }

@@ -22,7 +22,7 @@ pub record WithinLimit (K : ℕ) (counts : List ℕ) : Type 0 where
 -- exactly: the planner accepts exactly the requests within the limit.
 -- valid: what it finds for each of them is a plan.
 -- met: so the reads of each of them can be served: the limit is met.
--- renaming: a plan serves under other names of the symbols, and with pairs left unused.
+-- renaming: from a plan for some counts comes one for all counts that ask no more of each symbol, under any other names of the symbols.
 pub record ThePlanner : Type 0 where
   pub exactly : (K : ℕ) (counts : List ℕ) → length counts ≡ mostSymbols → (planRefusal K counts ≡ Accepted) ↔ WithinLimit K counts
   pub valid : (K : ℕ) (counts : List ℕ) → WithinLimit K counts → isPlan K counts (planOf K counts) ≡ true

@@ -43,7 +43,7 @@ planAnswer K counts = record { verdict = planRefusal K counts; plan = stored (pa
 abbrev pub pairsIn : Plan → List Pair
 pairsIn plan = listOf (λ n. record { a = getD (plan .first) n 0; b = getD (plan .second) n 0 }) 0 (plan .len)
 
--- A plan that holds for the counts: there is a pair for each read, and the audit says yes to the pairs.
+-- A plan for the counts, in its arrays: there is a pair for each read, and the audit says yes to the pairs.
 pub record PlanFor (K : ℕ) (counts : List ℕ) (plan : Plan) : Type 0 where
   pub reads : plan .len ≡ total counts
   pub audited : auditOf K counts (bytesOf (pairsIn plan)) ≡ Yes

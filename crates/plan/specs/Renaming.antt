@@ -21,7 +21,7 @@ renamed to (suc n) b = renamed to n b + bit b (to n) * 2 ^ n
 abbrev pub taken : ℕ → (ℕ → ℕ) → List ℕ → List Pair → ℕ → ℕ → Pair
 taken K to c pairs i j = pairWith i (renamed to K (pairAt pairs (start c (to i) + j) .b))
 
--- A plan for the counts c serves all counts that ask no more of each symbol, under any other names of the symbols.
+-- From a plan for the counts c comes one for all counts that ask no more of each symbol, under any other names of the symbols.
 abbrev pub RenamedPlan : Type 0
 RenamedPlan =
     (K : ℕ) (to : ℕ → ℕ) (c counts : List ℕ) (pairs : List Pair) → Permutes K to → IsPlan K c pairs

@@ -9,7 +9,7 @@ ghost use Rattle.simplex.specs.Laws.{TheCode};
 ghost use Rattle.simplex.specs.Filling.{packetsOf, filled, spaced, Fillable};
 ghost use Rattle.simplex.specs.Running.{doubled};
 
-// The bounds of K.
+// The bounds of K. A request vector has as many counts as the largest K has symbols.
 pub const LEAST_SYMBOLS: usize = 2;
 
 pub const MOST_SYMBOLS: usize = 5;
@@ -37,6 +37,7 @@ const GROUPS: [Group; MOST_SYMBOLS - LEAST_SYMBOLS + 1] = [
     },
 ];
 
+// The row of K.
 pub fn group_of(k: usize) -> Group
     requires { ⌜ SymbolsInRange k ⌝ }
     ensures { λ r. ⌜ r ≡ groupOf k ⌝ }

@@ -2,18 +2,18 @@
 use mathlib.Core.Path.{_≡_, refl, sym, subst}
 use mathlib.Core.Bool.{Bool, true, false, not, _||_}
 use mathlib.Core.List.{List}
-use Prim.Native.Nat.{ℕ, suc, _+_, _-_}
+use Prim.Native.Nat.{ℕ, zero, suc, _+_, _*_, _-_, _<_}
 use native.Mathlib.Omega.{arith}
-use lib.Dec.{T}
+use lib.Dec.{T, ltb, ltb→lt}
 use lib.ListN.{length, getD, drop}
 use Rattle.simplex.specs.Shape.{leastSymbols, mostSymbols, limitOf}
 use Rattle.simplex.proofs.Tables.{and-left, and-right}
-use Rattle.audit.specs.Plan.{isPlan}
+use Rattle.audit.specs.Plan.{isPlan, IsPlan}
 use Rattle.audit.specs.Audit.{allZero}
 use Rattle.audit.proofs.Reading.{sound}
 use Rattle.audit.proofs.Requests.{zero-all}
-use Rattle.table.specs.Rows.{trie}
-use Rattle.table.specs.Table.{SortedRequest, rowOf, rowPairs, TheTable}
+use Rattle.table.specs.Rows.{blockRows, blocks, trie}
+use Rattle.table.specs.Table.{SortedRequest, walk, rowIndex, rowOf, rowPairs}
 use Rattle.table.proofs.Sweep.{below-at, everywhere, everywhere-at}
 use Rattle.table.proofs.Tested.{inside, rowFits, testOf, test}
 
@@ -49,5 +49,15 @@ holds : (b : Bool) → T b → b ≡ true
 holds true t = refl
 holds false t = absurd t
 
-pub the-table : TheTable
-the-table K counts s = sound K counts (rowPairs (rowOf K counts) counts) (holds (isPlan K counts (rowPairs (rowOf K counts) counts)) (is-plan K counts s))
+-- a walk that stays within the trie ends within the rows
+ends : (counts : List ℕ) (at n : ℕ) → T (inside counts at n) → walk counts at n + getD counts 1 0 < length blocks * blockRows
+ends counts at zero t = ltb→lt (at + getD counts 1 0) (length blocks * blockRows) t
+ends counts at (suc n) t =
+    let next : ℕ = at + getD counts (suc (suc n)) 0 in
+    ends counts (getD trie next 0) n (and-right (ltb next (length trie)) (inside counts (getD trie next 0) n) t)
+
+pub found : (K : ℕ) (counts : List ℕ) → SortedRequest K counts → rowIndex K counts < length blocks * blockRows
+found K counts s = ends counts (getD trie (K - leastSymbols) 0) (K - 2) (within K counts s)
+
+pub valid : (K : ℕ) (counts : List ℕ) → SortedRequest K counts → IsPlan K counts (rowPairs (rowOf K counts) counts)
+valid K counts s = sound K counts (rowPairs (rowOf K counts) counts) (holds (isPlan K counts (rowPairs (rowOf K counts) counts)) (is-plan K counts s))

@@ -43,7 +43,7 @@ blocks =
     0x0000000000000000 ∷ 0x0000000000000000 ∷ 0x0000000000000000 ∷ 0x0000000000000000 ∷ []) ∷
     []
 
--- Where the row of a request is.
+-- Where the row of a request is: by the walk of specs/Table.antt.
 unfoldable pub trie : List ℕ
 trie =
     0 ∷ 4 ∷ 6 ∷ 15 ∷ 2 ∷ 4 ∷ 9 ∷ 11 ∷ 12 ∷ 6 ∷ 10 ∷ 12 ∷ 15 ∷ 17 ∷ 18 ∷ 19 ∷

@@ -1,8 +1,8 @@
 -- The stored table: a row for each sorted request, that is, for falling counts that total 2^(K-1).
 use mathlib.Core.Path.{_≡_}
 use mathlib.Core.List.{List, [], _∷_}
-use Prim.Native.Nat.{ℕ, zero, suc, _+_, _*_, _-_, _/_, _%_, _^_, _≤_}
-use lib.ListN.{getD}
+use Prim.Native.Nat.{ℕ, zero, suc, _+_, _*_, _-_, _/_, _%_, _^_, _≤_, _<_}
+use lib.ListN.{length, getD}
 use Rattle.simplex.specs.Shape.{leastSymbols, mostSymbols, limitOf}
 use Rattle.simplex.specs.Limit.{total}
 use Rattle.audit.specs.Plan.{Pair, start, IsPlan}
@@ -51,6 +51,7 @@ secondBank row p n = spread p (digitOf row n)
 abbrev pub rowPairs : ℕ → List ℕ → List Pair
 rowPairs row counts = grouped (λ p j. pairWith p (secondBank row p (start counts p + j))) 0 counts
 
--- Every sorted request has a row, and the pairs of the row are a plan for it.
-abbrev pub TheTable : Type 0
-TheTable = (K : ℕ) (counts : List ℕ) → SortedRequest K counts → IsPlan K counts (rowPairs (rowOf K counts) counts)
+-- found: every sorted request has a row among the stored ones. valid: the pairs of its row are a plan for it.
+pub record TheTable : Type 0 where
+  pub found : (K : ℕ) (counts : List ℕ) → SortedRequest K counts → rowIndex K counts < length blocks * blockRows
+  pub valid : (K : ℕ) (counts : List ℕ) → SortedRequest K counts → IsPlan K counts (rowPairs (rowOf K counts) counts)

@@ -8,7 +8,7 @@ ghost use Rattle.table.specs.Rows.{blocks};
 // The rows of a block.
 pub const BLOCK: usize = 16;
 
-// Where the row of a request is.
+// Where the row of a request is: by the walk of specs/Table.antt.
 pub const TRIE: [u8; 61] = [
     0,
     4,

@@ -1,12 +1,12 @@
--- `cases::is_passed` stays within the bytes.
+-- `cases::audit_of` stays within the bytes.
 use mathlib.Core.Path.{_≡_, sym}
 use Prim.Native.Nat.{_*_}
 use native.Mathlib.Omega.{arith}
+use borrow.Author.Needs.{needs}
 use lib.ListN.{length}
 use lib.Seq.{length-take-le}
-use borrow.Author.Needs.{needs}
-use Rattle.cases.proofs.is_passed.Statement.{statement}
-use Rattle.cases.proofs.is_passed.Tie as tie
+use Rattle.cases.proofs.audit_of.Statement.{statement}
+use Rattle.cases.proofs.audit_of.Tie as tie
 
 bytes-of-requires : tie.Need-bytes-of-requires
 bytes-of-requires c κs = search needs
@@ -28,26 +28,11 @@ slice-aggregate-audit c =
 audit-requires : tie.Need-audit-requires
 audit-requires c κs = search needs
 
-enum-told : tie.Need-enum-told
-enum-told c = search needs
-
-enum-told-2 : tie.Need-enum-told-2
-enum-told-2 c = search needs
-
-enum-known-audited : tie.Need-enum-known-audited
-enum-known-audited c = search needs
-
 returns-2 : tie.Need-returns-2
 returns-2 c = search needs
 
-returns-3 : tie.Need-returns-3
-returns-3 c = search needs
-
-returns-4 : tie.Need-returns-4
-returns-4 c = search needs
-
-pub is-passed-spec : {M : Type 1} → statement M
-is-passed-spec =
+pub audit-of-spec : {M : Type 1} → statement M
+audit-of-spec =
     tie.close
     (tie.spec
     bytes-of-requires
@@ -56,9 +41,4 @@ is-passed-spec =
     array-share-prefix-bytes
     slice-aggregate-audit
     audit-requires
-    enum-told
-    enum-told-2
-    enum-known-audited
-    returns-2
-    returns-3
-    returns-4)
+    returns-2)
