@@ -14,6 +14,7 @@ use Rattle.refusals.proofs.Verdicts.{first-accepted, next-accepted, check-passe
 use Rattle.simplex.specs.Shape.{leastSymbols, mostSymbols, SymbolsInRange, limitOf}
 use Rattle.simplex.specs.Limit.{total}
 use Rattle.audit.specs.declared.Rest.{Rest}
+use Rattle.audit.specs.declared.Audited.{Audited}
 use Rattle.audit.specs.declared.Audited.the-variants.{Yes, No, Refused as NotAudited}
 use Rattle.audit.specs.Plan.{Pair, isPlan}
 use Rattle.audit.specs.Audit.{countsRefusal, pairsOf, isPlanOf, restOf, answer, auditOf, RequestOf, bytesOf, PlanIn}
@@ -66,10 +67,15 @@ module _ (room : ℕ) (counts : List ℕ) (r : Rest) (e : r ≡ restOf room coun
 
 -- ---- yes
 
+abbrev isYes : Audited → Bool
+isYes Yes = true
+isYes No = false
+isYes (NotAudited number place) = false
+
 yes-parts : (v : Verdict) (t : Bool) → answer v t ≡ Yes → (v ≡ Accepted) × (t ≡ true)
 yes-parts Accepted true e = (refl, refl)
-yes-parts Accepted false e = absurd (let z : _≡_ {A = ℕ} 0 1 = cc in omega arith)
-yes-parts (Refused number place) t e = absurd (let z : _≡_ {A = ℕ} 0 1 = cc in omega arith)
+yes-parts Accepted false e = absurd (false≢true (ap isYes e))
+yes-parts (Refused number place) t e = absurd (false≢true (ap isYes e))
 
 module _ (K : ℕ) (counts : List ℕ) where
   pub request : length counts ≡ mostSymbols → countsRefusal K counts ≡ Accepted → RequestOf K counts

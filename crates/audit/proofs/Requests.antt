@@ -1,4 +1,4 @@
--- The counts of a request vector from symbol i on: whether all are 0, what they total, and which reads they ask. And when they are not refused.
+-- The counts of a request vector from symbol i on: whether all are 0, what they total, and which reads they ask.
 use mathlib.Core.Path.{_≡_, refl, sym, ap, _∙_}
 use mathlib.Core.Bool.{true, false, _&&_}
 use mathlib.Core.List.{List, [], _∷_, _++_}

@@ -1,4 +1,4 @@
-// How an operation answers that it says no.
+// How an operation says no.
 
 // Accepted, or refused with the refusal's number and place.
 pub enum Verdict {

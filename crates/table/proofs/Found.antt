@@ -1,6 +1,6 @@
 -- Every sorted request has its row, and the row's pairs are a plan for it.
 use mathlib.Core.Path.{_≡_, refl, sym, subst}
-use mathlib.Core.Bool.{Bool, true, false, not, _||_}
+use mathlib.Core.Bool.{Bool, true, false, not, _||_, false≢true}
 use mathlib.Core.List.{List}
 use Prim.Native.Nat.{ℕ, zero, suc, _+_, _*_, _-_, _<_}
 use native.Mathlib.Omega.{arith}
@@ -19,7 +19,7 @@ use Rattle.table.proofs.Tested.{inside, rowFits, testOf, test}
 
 given : (a b : Bool) → a ≡ true → T (not a || b) → T b
 given true b e t = t
-given false b e t = absurd (let z : _≡_ {A = ℕ} 0 1 = cc in omega arith)
+given false b e t = absurd (false≢true e)
 
 module _ (K : ℕ) (counts : List ℕ) (s : SortedRequest K counts) where
   tested : T (testOf K)
