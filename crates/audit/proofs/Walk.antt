@@ -5,17 +5,17 @@ use mathlib.Core.List.{List, [], _∷_, _++_}
 use Prim.Native.Nat.{ℕ, zero, suc, _*_, _/_, _≤_, _<_}
 use native.Mathlib.Omega.{arith}
 use borrow.Author.Tests.{ne-eqb}
-use lib.Dec.{eqb}
 use lib.ListN.{length, getD, drop, drop-of-length-le}
 use lib.Seq.{drop-cons}
-use Rattle.simplex.specs.Code.{Banks, bit}
+use Rattle.bits.specs.Marks.{marked}
+use Rattle.simplex.specs.Code.{Banks}
 use Rattle.simplex.specs.Limit.{total, readsOf}
 use Rattle.simplex.proofs.Requests.{length-reads}
 use Rattle.audit.specs.Plan.{Pair, opens, opened, serves, servesAll, banksOpened, among, noneTwice, isPlan}
 use Rattle.audit.specs.Audit.{pairsOf}
-use Rattle.audit.specs.Parts.{marked}
+use Rattle.audit.specs.Parts.{bankTurned}
 use Rattle.audit.proofs.Reading.{serves-sound}
-use Rattle.audit.proofs.Marks.{Marks, no-marks, free, still-free, more-pair}
+use Rattle.audit.proofs.Marks.{Marks, no-marks, more-pair}
 use Rattle.audit.proofs.Pairs.{length-pairs, pairIn, pair-at}
 
 -- ---- one pair more, before the others
@@ -37,27 +37,18 @@ pub record Walked (K : ℕ) (reads : List ℕ) (pairs : List Pair) (used : ℕ) 
   pub passed : fine K reads pairs ≡ true
   pub marks : Marks used (banksOpened pairs)
 
--- the code's test of a bank
-abbrev pub met : ℕ → ℕ → Bool
-met used b = eqb (bit used b) 1
-
 module _ (K i : ℕ) (p : Pair) (reads : List ℕ) (pairs : List Pair) (used : ℕ) (w : Walked K reads pairs used) (e : serves K i p ≡ true) where
-  turn : fine K (i ∷ reads) (p ∷ pairs) ≡ (not (met used (p .a)) && not (met used (p .b)))
+  turn : fine K (i ∷ reads) (p ∷ pairs) ≡ (not (marked used (p .a)) && not (marked used (p .b)))
   turn =
       let banks : Banks = banksOpened pairs in
       ap₂ (λ (x y : Bool). x && servesAll K reads pairs && y) e (once-more (p .a) (p .b) banks (serves-sound K i p e .above) (w .marks .none))
       ∙ shuffle (servesAll K reads pairs) (not (among (p .a) banks)) (not (among (p .b) banks)) (noneTwice banks)
       ∙ rw (w .passed, and-true) (sym (ap₂ (λ (x y : Bool). not x && not y) (w .marks .each (p .a)) (w .marks .each (p .b))))
 
-  more : met used (p .a) ≡ false → met used (p .b) ≡ false → Walked K (i ∷ reads) (p ∷ pairs) (marked (marked used (p .b)) (p .a))
+  more : marked used (p .a) ≡ false → marked used (p .b) ≡ false → Walked K (i ∷ reads) (p ∷ pairs) (bankTurned (bankTurned used (p .b)) (p .a))
   more ha hb =
       let s = serves-sound K i p e in
-      let fb = free used (p .b) hb in
-      record {
-        passed = turn ∙ rw (ha, hb);
-        marks = more-pair used (p .a) (p .b) (banksOpened pairs) (s .first-from) (w .marks) fb
-            (still-free used (p .a) (p .b) (s .above) (free used (p .a) ha) fb);
-      }
+      record { passed = turn ∙ rw (ha, hb); marks = more-pair used (p .a) (p .b) (banksOpened pairs) (s .above) (w .marks) hb ha }
 
 -- ---- where the pairs from pair n on are no plan, all of them are none
 
@@ -132,16 +123,16 @@ module _ {K : ℕ} {counts bytes : List ℕ} {m n used i : ℕ} (t : Turn K coun
   not-served e = no (rw e)
 
   tests : serves K i (pairIn bytes m) ≡ true → fine K (i ∷ drop n (readsOf counts)) (pairIn bytes m ∷ drop n (pairsOf bytes))
-      ≡ (not (met used (pairIn bytes m .a)) && not (met used (pairIn bytes m .b)))
+      ≡ (not (marked used (pairIn bytes m .a)) && not (marked used (pairIn bytes m .b)))
   tests = turn K i (pairIn bytes m) (drop n (readsOf counts)) (drop n (pairsOf bytes)) used (t .walked)
 
-  pub first-met : serves K i (pairIn bytes m) ≡ true → met used (pairIn bytes m .a) ≡ true → isPlan K counts (pairsOf bytes) ≡ false
+  pub first-met : serves K i (pairIn bytes m) ≡ true → marked used (pairIn bytes m .a) ≡ true → isPlan K counts (pairsOf bytes) ≡ false
   first-met e f = no (tests e ∙ rw f)
 
-  pub second-met : serves K i (pairIn bytes m) ≡ true → met used (pairIn bytes m .b) ≡ true → isPlan K counts (pairsOf bytes) ≡ false
+  pub second-met : serves K i (pairIn bytes m) ≡ true → marked used (pairIn bytes m .b) ≡ true → isPlan K counts (pairsOf bytes) ≡ false
   second-met e f = no (tests e ∙ simp (f, and-false))
 
-  pub one-more : serves K i (pairIn bytes m) ≡ true → met used (pairIn bytes m .a) ≡ false → met used (pairIn bytes m .b) ≡ false
-      → From K counts bytes m (marked (marked used (pairIn bytes m .b)) (pairIn bytes m .a))
+  pub one-more : serves K i (pairIn bytes m) ≡ true → marked used (pairIn bytes m .a) ≡ false → marked used (pairIn bytes m .b) ≡ false
+      → From K counts bytes m (bankTurned (bankTurned used (pairIn bytes m .b)) (pairIn bytes m .a))
   one-more e ha hb =
       rw (reads-at, pairs-at) (more K i (pairIn bytes m) (drop n (readsOf counts)) (drop n (pairsOf bytes)) used (t .walked) e ha hb)

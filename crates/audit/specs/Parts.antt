@@ -1,7 +1,8 @@
 -- How the audit marks the banks that it has met. No public promise cites it.
-use Prim.Native.Nat.{ℕ, zero, suc, _+_, _^_}
+use Prim.Native.Nat.{ℕ, zero, suc}
+use Rattle.bits.specs.Marks.{turned}
 
--- A set of banks as a number, with bank b put in: bank b is there where bit b is 1. Bank 0 stands for no bank.
-abbrev pub marked : ℕ → ℕ → ℕ
-marked set zero = set
-marked set (suc b) = set + 2 ^ suc b
+-- The marks of some banks with that of bank b turned. Bank 0 stands for no bank.
+abbrev pub bankTurned : ℕ → ℕ → ℕ
+bankTurned set zero = set
+bankTurned set (suc b) = turned set (suc b)

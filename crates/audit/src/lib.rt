@@ -1,14 +1,12 @@
 // What a plan is, and its audit.
 ghost use mathlib.Core.Path.{_≡_};
 ghost use Prim.Native.Nat.{_*_, _<_};
-ghost use lib.Dec.{eqb};
 ghost use lib.ListN.{length, getD};
-ghost use Rattle.simplex.specs.Code.{bit};
 ghost use Rattle.simplex.specs.Shape.{SymbolsInRange, mostSymbols};
 ghost use Rattle.simplex.specs.Limit.{total, readsOf};
 ghost use Rattle.audit.specs.Plan.{serves, isPlan};
 ghost use Rattle.audit.specs.Audit.{countsRefusal, restOf, pairsOf, auditOf};
-ghost use Rattle.audit.specs.Parts.{marked};
+ghost use Rattle.audit.specs.Parts.{bankTurned};
 ghost use Rattle.audit.specs.Laws.{ThePlans};
 use refusals::Verdict;
 use simplex::LEAST_SYMBOLS;
@@ -99,26 +97,18 @@ fn serves_symbol(k: usize, i: usize, a: usize, b: usize) -> bool
     a ^ b == 1 << i
 }
 
-// Whether bank b is in a set of banks: bit b is 1.
-fn is_marked(set: u64, b: usize) -> bool
+// The marks with that of bank b turned. Bank 0 is no bank.
+fn turn_bank(set: u64, b: usize) -> u64
     requires { ⌜ b < 64 ⌝ }
-    ensures { λ r. ⌜ r ≡ eqb (bit set b) 1 ⌝ }
-{
-    (set >> b) % 2 == 1
-}
-
-// The set with bank b put in, which it does not have. Bank 0 is no bank.
-fn mark(set: u64, b: usize) -> u64
-    requires { ⌜ (b < 64) × (bit set b ≡ 0) ⌝ }
-    ensures { λ r. ⌜ r ≡ marked set b ⌝ }
+    ensures { λ r. ⌜ r ≡ bankTurned set b ⌝ }
 {
     if b == 0 {
         return set;
     }
-    set + (1 << b)
+    bits::turn(set, b)
 }
 
-// The pairs are gone through from the last to the first. Bit b of `used` is 1 where bank b is opened by a pair after the one at hand.
+// The pairs are gone through from the last to the first. Bank b is marked in `used` where a pair after the one at hand opens it.
 fn audit_pairs(k: usize, counts: [usize; MOST_SYMBOLS], bytes: &[u8]) -> bool
     requires { ⌜ SymbolsInRange k ⌝ }
     requires { ⌜ length (now bytes) ≡ total counts * 2 ⌝ }
@@ -133,10 +123,10 @@ fn audit_pairs(k: usize, counts: [usize; MOST_SYMBOLS], bytes: &[u8]) -> bool
         if !serves_symbol(k, symbol_of(counts, n), a, b) {
             return false;
         }
-        if is_marked(used, a) || is_marked(used, b) {
+        if bits::is_marked(used, a) || bits::is_marked(used, b) {
             return false;
         }
-        used = mark(mark(used, b), a);
+        used = turn_bank(turn_bank(used, b), a);
     }
     true
 }

@@ -6,7 +6,7 @@ use native.Mathlib.Nat.{suc-inj, suc-ne-zero, le-of-suc-le-suc, not-suc-le-zero}
 use lib.Bits.{bitXor, xor-comm, xor-zero-r}
 use lib.ListN.{length, getD, replicate}
 use Rattle.cells.specs.Xor.{xorBytes, zeros}
-use Rattle.cells.proofs.Digits.{xor-assoc, xor-cancel}
+use Rattle.bits.proofs.Digits.{xor-assoc, xor-cancel}
 
 pub assoc : (p q r : List ℕ) → xorBytes (xorBytes p q) r ≡ xorBytes p (xorBytes q r)
 assoc [] q r = refl

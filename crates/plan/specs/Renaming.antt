@@ -3,7 +3,7 @@ use mathlib.Core.Path.{_≡_}
 use mathlib.Core.List.{List}
 use Prim.Native.Nat.{ℕ, zero, suc, _+_, _*_, _^_, _≤_, _<_}
 use lib.ListN.{getD}
-use Rattle.simplex.specs.Code.{bit}
+use Rattle.bits.specs.Bits.{bit}
 use Rattle.audit.specs.Plan.{Pair, start, pairAt, IsPlan}
 use Rattle.table.specs.Grouped.{pairWith, grouped}
 

@@ -7,10 +7,11 @@ use native.Mathlib.Omega.{arith}
 use lib.Bits.{bitXor}
 use lib.ListN.{length, getD, length-replicate}
 use Rattle.cells.specs.Xor.{xorBytes, zeros, xorAll}
-use Rattle.cells.proofs.Digits.{digit, low-lt, xor-half, xor-low}
+use Rattle.bits.proofs.Digits.{digit, low-lt, xor-half, xor-low}
 use Rattle.cells.proofs.Xors.{assoc, left-comm, cancel, zeros-right, same-bytes, length-xor}
-use Rattle.simplex.proofs.Bits.{bit-half}
-use Rattle.simplex.specs.Code.{Packet, Sized, Content, bit, keepIf, chosen, bankCell, Banks, xorOfBanks, xorOfNumbers, Yields}
+use Rattle.bits.specs.Bits.{bit}
+use Rattle.bits.proofs.Bits.{bit-half}
+use Rattle.simplex.specs.Code.{Packet, Sized, Content, keepIf, chosen, bankCell, Banks, xorOfBanks, xorOfNumbers, Yields}
 
 pub sized-at : (P : ℕ) (packets : List Packet) (i : ℕ) → i < length packets → Sized P packets → length (getD packets i []) ≡ P
 sized-at P [] i l h = absurd (not-suc-le-zero l)

@@ -1,6 +1,5 @@
 -- The laws that the proofs of this crate, and of those above it, cite.
 pub mod Tables
-pub mod Bits
 pub mod Banks
 pub mod Parity
 pub mod Pigeon

@@ -11,7 +11,7 @@ use native.Mathlib.Omega.{arith}
 use lib.Pow.{pow-pos}
 use lib.ListN.{length, getD, replicate}
 use Rattle.cells.specs.Xor.{zeros, xorBytes}
-use Rattle.cells.proofs.Digits.{low-lt}
+use Rattle.bits.proofs.Digits.{low-lt}
 use Rattle.cells.proofs.Xors.{same-bytes}
 use Rattle.simplex.specs.Shape.{banksOf, limitOf, degreeOf}
 use Rattle.simplex.specs.Code.{Banks, xorOfBanks, Yields}

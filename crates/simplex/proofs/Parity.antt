@@ -10,7 +10,7 @@ use lib.Count.{ones, ones-step}
 use lib.Dec.{lit<}
 use lib.Pow.{pow-pos}
 use lib.ListN.{getD, replicate, length-replicate}
-use Rattle.cells.proofs.Digits.{digit, low-lt}
+use Rattle.bits.proofs.Digits.{digit, low-lt}
 use Rattle.cells.proofs.Xors.{same-bytes}
 use Rattle.simplex.specs.Shape.{banksOf, limitOf, degreeOf}
 use Rattle.simplex.specs.Code.{Packet, Sized, Content, bankCell}

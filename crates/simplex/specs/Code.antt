@@ -1,9 +1,10 @@
 -- The code of a group: what each bank holds, and what a set of banks yields.
 use mathlib.Core.Path.{_≡_}
 use mathlib.Core.List.{List, [], _∷_, map}
-use Prim.Native.Nat.{ℕ, zero, suc, _/_, _%_, _^_, _<_}
+use Prim.Native.Nat.{ℕ, zero, suc, _<_}
 use lib.Bits.{bitXor}
 use lib.ListN.{length, getD}
+use Rattle.bits.specs.Bits.{bit}
 use Rattle.cells.specs.Xor.{xorAll}
 
 -- A packet: a list of bytes.
@@ -20,10 +21,6 @@ pub record Content (K P : ℕ) (packets : List Packet) : Type 0 where
   pub count : length packets ≡ K
   pub sized : Sized P packets
   pub bytes : (i j : ℕ) → getD (getD packets i []) j 0 < 256
-
--- Bit i of the number b, bit 0 the lowest.
-abbrev pub bit : ℕ → ℕ → ℕ
-bit b i = b / 2 ^ i % 2
 
 -- The packet p before the others where the bit is 1.
 abbrev pub keepIf : ℕ → Packet → List Packet → List Packet

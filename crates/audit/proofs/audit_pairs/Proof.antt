@@ -7,13 +7,12 @@ use native.Mathlib.Omega.{arith}
 use borrow.Author.Tests.{not-true, not-false}
 use lib.ListN.{length}
 use denote.Ref.{now}
-use Rattle.simplex.specs.Code.{bit}
+use Rattle.bits.specs.Marks.{marked}
 use Rattle.simplex.specs.Limit.{total}
 use Rattle.audit.specs.Plan.{Pair, serves}
-use Rattle.audit.specs.Parts.{marked}
-use Rattle.audit.proofs.Marks.{free, still-free}
+use Rattle.audit.specs.Parts.{bankTurned}
 use Rattle.audit.proofs.Pairs.{banks-below, pairIn}
-use Rattle.audit.proofs.Walk.{met, From, Turn, none-yet, all-passed, not-served, first-met, second-met, one-more}
+use Rattle.audit.proofs.Walk.{From, Turn, none-yet, all-passed, not-served, first-met, second-met, one-more}
 use Rattle.audit.proofs.audit_pairs.Statement.{statement}
 use Rattle.audit.proofs.audit_pairs.Tie as tie
 
@@ -58,14 +57,11 @@ module _ (c : tie.Else3 Inv-loop μ-loop) where
   abbrev Asked : tie.After-symbol-of Inv-loop μ-loop
   Asked = c .before .before .before .before .before .before
 
-  first-unmet : met (Loop Asked .loop .used) (P Asked .a) ≡ false
+  first-unmet : marked (Loop Asked .loop .used) (P Asked .a) ≡ false
   first-unmet = sym (c .before .before .before .is-marked .ensures) ∙ c .before .before .if2 .left
 
-  second-unmet : met (Loop Asked .loop .used) (P Asked .b) ≡ false
+  second-unmet : marked (Loop Asked .loop .used) (P Asked .b) ≡ false
   second-unmet = sym (c .before .is-marked2 .ensures) ∙ c .if3 .left
-
-  second-off : bit (Loop Asked .loop .used) (P Asked .b) ≡ 0
-  second-off = free _ _ second-unmet
 
 loop-holds : tie.Need-loop-holds Inv-loop μ-loop
 loop-holds c =
@@ -120,16 +116,11 @@ returns-2 c =
     ⊎-elim (λ w. sym (first-met t (served e) (sym (c .before .is-marked .ensures) ∙ w .taken)))
     (λ w. sym (second-met t (served e) (sym (w .1 .ensures) ∙ w .2 .taken))) (c .if2 .came)
 
-mark-requires : tie.Need-mark-requires Inv-loop μ-loop
-mark-requires c κs = (omega (arith, below (c .before .before .before .before)), second-off c)
+turn-bank-requires : tie.Need-turn-bank-requires Inv-loop μ-loop
+turn-bank-requires c κs = omega (arith, below (c .before .before .before .before))
 
-mark-requires-2 : tie.Need-mark-requires-2 Inv-loop μ-loop
-mark-requires-2 c κs =
-    let e = c .before .before .before .before .before in
-    let first-off = free _ _ (first-unmet (c .before)) in (
-      below e .0,
-      ap (λ (x : ℕ). bit x (P (e .before .before) .a)) (c .mark .ensures) ∙ still-free _ _ _ (below e .1) first-off (second-off (c .before)),
-    )
+turn-bank-requires-2 : tie.Need-turn-bank-requires-2 Inv-loop μ-loop
+turn-bank-requires-2 c κs = below (c .before .before .before .before .before) .0
 
 loop-less : tie.Need-loop-less Inv-loop μ-loop
 loop-less c = omega arith
@@ -139,7 +130,7 @@ loop-again c =
     let d = c .before .before in
     let e = d .before .before .before .before in
     let t = e .before .before in
-    let marks = c .mark2 .ensures ∙ ap (λ (x : ℕ). marked x (P t .a)) (c .before .mark .ensures) in (
+    let marks = c .turn-bank2 .ensures ∙ ap (λ (x : ℕ). bankTurned x (P t .a)) (c .before .turn-bank .ensures) in (
       omega arith,
       subst (λ (x : ℕ). From (St t .args .k) (St t .args .counts) (now (St t .args .bytes)) (At t) x) (sym marks)
           (one-more (turn t) (served e) (first-unmet d) (second-unmet d)),
@@ -156,4 +147,4 @@ pub audit-pairs-spec : {M : Type 1} → statement M
 audit-pairs-spec =
     tie.close
     (tie.spec Inv-loop μ-loop loop-holds sub-n mul-a shared-slice-read-a cast-a mul-b add-b shared-slice-read-b cast-b symbol-of-requires
-    serves-symbol-requires returns is-marked-requires is-marked-requires-2 returns-2 mark-requires mark-requires-2 loop-less loop-again returns-3)
+    serves-symbol-requires returns is-marked-requires is-marked-requires-2 returns-2 turn-bank-requires turn-bank-requires-2 loop-less loop-again returns-3)

@@ -4,8 +4,8 @@ use mathlib.Core.Logic.{⊎-elim}
 use native.Mathlib.Omega.{arith}
 use borrow.Author.Needs.{needs}
 use borrow.Author.Tests.{leb-true, leb-false, ltb-true, ltb-false}
+use Rattle.bits.proofs.Marks.{one-shl}
 use Rattle.simplex.specs.declared.Group.{Group}
-use Rattle.audit.proofs.Marks.{one-shl}
 use Rattle.audit.proofs.Pairs.{last-test, not-serving}
 use Rattle.audit.proofs.serves_symbol.Statement.{statement}
 use Rattle.audit.proofs.serves_symbol.Tie as tie

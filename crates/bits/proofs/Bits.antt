@@ -8,8 +8,8 @@ use native.Mathlib.Numerals.{one-add}
 use lib.Arith.{digits-lt}
 use lib.Bits.{bitXor, xor-zero-r, xor-self}
 use lib.Pow.{shr-shr, high}
-use Rattle.cells.proofs.Digits.{xor-half, xor-low, xor-assoc}
-use Rattle.simplex.specs.Code.{bit}
+use Rattle.bits.proofs.Digits.{xor-half, xor-low, xor-assoc}
+use Rattle.bits.specs.Bits.{bit}
 
 -- h is the half of b
 pub bit-half : (b i : ℕ) {h : ℕ} → b / 2 ≡ h → bit b (suc i) ≡ bit h i

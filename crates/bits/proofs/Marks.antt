@@ -1,0 +1,108 @@
+-- Laws of marks: one turned, the others left alone, none from a number on, and how many they are.
+use mathlib.Core.Path.{_≡_, refl, sym, ap, ap₂, _∙_}
+use mathlib.Core.Logic.{_≢_, ⊎-elim}
+use mathlib.Core.Bool.{Bool, true, false, not, cond}
+use Prim.Native.Nat.{ℕ, zero, suc, _+_, _-_, _*_, _/_, _%_, _^_, _≤_, _<_}
+use native.Mathlib.Nat.{div-self, div-eq-of-lt, zero-div, one-mul, pow-suc, eq-or-lt-of-le, mod-lt, mod-eq-of-lt, mod-one, add-zero}
+use native.Mathlib.Omega.{arith}
+use borrow.Author.Tests.{eq-eqb, eqb-true, eqb-false}
+use lib.Arith.{bin-ind}
+use lib.Bits.{bitXor, xor-shr, xor-zero-r}
+use lib.Count.{ones, ones-cat}
+use lib.Dec.{eqb, lit<}
+use lib.Pow.{pow-pos, pow-lt, shl-exact, shr-shr, mod-pow-add}
+use Rattle.bits.specs.Bits.{bit}
+use Rattle.bits.specs.Marks.{marked, turned, noneFrom, howMany}
+use Rattle.bits.proofs.Digits.{digit, low-lt, xor-low}
+use Rattle.bits.proofs.Bits.{bit-half, bit-zero}
+
+-- ---- one mark turned
+
+-- 2^i has bit i alone
+power-itself : (i : ℕ) → bit (2 ^ i) i ≡ 1
+power-itself i = rw (div-self (pow-pos i))
+
+power-other : (i j : ℕ) → i ≢ j → bit (2 ^ i) j ≡ 0
+power-other zero zero ne = absurd (ne refl)
+power-other zero (suc j) ne = bit-half 1 j (omega arith) ∙ bit-zero j
+power-other (suc i) zero ne = omega (arith, pow-suc 2 i)
+power-other (suc i) (suc j) ne = bit-half (2 ^ suc i) j (omega (arith, pow-suc 2 i)) ∙ power-other i j (λ e. ne (ap suc e))
+
+bit-turned : (set i j : ℕ) → bit (turned set i) j ≡ bitXor (bit set j) (bit (2 ^ i) j)
+bit-turned set i j = ap (λ (n : ℕ). n % 2) (xor-shr set (2 ^ i) j) ∙ xor-low (set / 2 ^ j) (2 ^ i / 2 ^ j)
+
+pub turned-itself : (set i : ℕ) → marked (turned set i) i ≡ not (marked set i)
+turned-itself set i =
+    ap (λ (d : ℕ). eqb d 1) (bit-turned set i i ∙ ap (bitXor (bit set i)) (power-itself i))
+    ∙ digit (λ (d : ℕ). eqb (bitXor d 1) 1 ≡ not (eqb d 1)) refl refl (bit set i) (low-lt (set / 2 ^ i))
+
+pub turned-other : (set i j : ℕ) → i ≢ j → marked (turned set i) j ≡ marked set j
+turned-other set i j ne = ap (λ (d : ℕ). eqb d 1) (bit-turned set i j ∙ ap (bitXor (bit set j)) (power-other i j ne) ∙ xor-zero-r (bit set j))
+
+-- ---- none from a number on
+
+pub turned-below : (set i n : ℕ) → i < n → noneFrom set n ≡ true → noneFrom (turned set i) n ≡ true
+turned-below set i n l e =
+    eq-eqb _ _ (xor-shr set (2 ^ i) n ∙ ap₂ bitXor (eqb-true (set / 2 ^ n) 0 e) (div-eq-of-lt (pow-lt l)))
+
+bit-shr : (set n i : ℕ) → bit (set / 2 ^ n) i ≡ bit set (n + i)
+bit-shr set n i = ap (λ (x : ℕ). x % 2) (shr-shr set n i)
+
+pub none-marked : (set n : ℕ) → noneFrom set n ≡ true → (i : ℕ) → n ≤ i → marked set i ≡ false
+none-marked set n e i l =
+    let at : n + (i - n) ≡ i = omega arith in
+    let off : bit set i ≡ 0 =
+    ap (bit set) (sym at) ∙ sym (bit-shr set n (i - n)) ∙ ap (λ (x : ℕ). bit x (i - n)) (eqb-true (set / 2 ^ n) 0 e) ∙ bit-zero (i - n) in
+    ap (λ (d : ℕ). eqb d 1) off
+
+-- a number whose bits are all 0
+no-bits : (n : ℕ) → ((i : ℕ) → bit n i ≡ 0) → n ≡ 0
+no-bits =
+    bin-ind (λ (n : ℕ). ((i : ℕ) → bit n i ≡ 0) → n ≡ 0) (λ h. refl)
+    (λ n ih h. omega (arith, ih (λ i. sym (bit-half n i refl) ∙ h (suc i)), h 0))
+
+pub marked-none : (set n : ℕ) → ((i : ℕ) → n ≤ i → marked set i ≡ false) → noneFrom set n ≡ true
+marked-none set n off = eq-eqb _ _ (no-bits (set / 2 ^ n) (λ i. bit-shr set n i ∙ zero-bit (n + i) (off (n + i) (omega arith))))
+  where
+    zero-bit : (i : ℕ) → marked set i ≡ false → bit set i ≡ 0
+    zero-bit i e = let ne = eqb-false (bit set i) 1 e in omega arith
+
+-- ---- how many
+
+pub same-many : (f g : ℕ → Bool) (n : ℕ) → ((i : ℕ) → i < n → f i ≡ g i) → howMany f n ≡ howMany g n
+same-many f g zero h = refl
+same-many f g (suc n) h = rw (same-many f g n (λ i l. h i (omega arith)), h n (omega arith))
+
+-- counting further finds no more where nothing passes from n on
+pub none-more : (test : ℕ → Bool) (n w : ℕ) → n ≤ w → ((i : ℕ) → n ≤ i → test i ≡ false) → howMany test w ≡ howMany test n
+none-more test n zero l off = let e : zero ≡ n = omega arith in ap (howMany test) e
+none-more test n (suc w) l off =
+    ⊎-elim (λ (e : n ≡ suc w). ap (howMany test) (sym e))
+    (λ (b : n < suc w). rw (none-more test n w (omega arith) off, off w (omega arith), add-zero (howMany test n)))
+    (eq-or-lt-of-le l)
+
+cond-digit : (d : ℕ) → d < 2 → cond (eqb d 1) 1 0 ≡ d
+cond-digit = digit (λ (d : ℕ). cond (eqb d 1) 1 0 ≡ d) refl refl
+
+ones-digit : (d : ℕ) → d < 2 → ones d ≡ d
+unfolding ones
+ones-digit = digit (λ (d : ℕ). ones d ≡ d) refl refl
+
+ones-low : (set n : ℕ) → howMany (marked set) n ≡ ones (set % 2 ^ n)
+ones-low set zero = sym (ap ones (mod-one set) ∙ ones-digit 0 (omega arith))
+ones-low set (suc n) =
+    let d : ℕ = bit set n in
+    let small : d < 2 = low-lt (set / 2 ^ n) in
+    let split : set % 2 ^ (1 + n) ≡ d * 2 ^ n + set % 2 ^ n = mod-pow-add set 1 n in
+    let one : 1 + n ≡ suc n = omega arith in
+    let parts : ones (d * 2 ^ n + set % 2 ^ n) ≡ ones d + ones (set % 2 ^ n) = ones-cat n d (set % 2 ^ n) (mod-lt set (pow-pos n)) in
+    let ih = ones-low set n in
+    ap₂ _+_ ih (cond-digit d small ∙ sym (ones-digit d small)) ∙ omega arith ∙ sym parts ∙ sym (ap ones split) ∙ ap (λ (w : ℕ). ones (set % 2 ^ w)) one
+
+pub ones-are : (set n : ℕ) → set < 2 ^ n → ones set ≡ howMany (marked set) n
+ones-are set n h = ap ones (sym (mod-eq-of-lt h)) ∙ sym (ones-low set n)
+
+-- ---- as the code computes them
+
+pub one-shl : (i w : ℕ) → i < w → 1 * 2 ^ i % 2 ^ w ≡ 2 ^ i
+one-shl i w h = shl-exact 1 i w (lit< tt) (omega arith) ∙ one-mul (2 ^ i)

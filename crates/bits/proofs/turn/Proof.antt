@@ -1,0 +1,14 @@
+-- `bits::turn` meets its contract: the shift loses no bit.
+use borrow.Author.Needs.{needs}
+use Rattle.bits.proofs.Marks.{one-shl}
+use Rattle.bits.proofs.turn.Statement.{statement}
+use Rattle.bits.proofs.turn.Tie as tie
+
+shl-result : tie.Need-shl-result
+shl-result c = search needs
+
+returns : tie.Need-returns
+returns c = rw (one-shl (c .args .i) 64 (search needs))
+
+pub turn-spec : {M : Type 1} → statement M
+turn-spec = tie.close (tie.spec shl-result returns)

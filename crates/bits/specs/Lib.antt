@@ -1,0 +1,3 @@
+-- The definitions of the crate: bits of a number, and sets of numbers as words.
+pub mod Bits
+pub mod Marks
