@@ -10,7 +10,7 @@ use lib.Dec.{eqb}
 use lib.ListN.{length, getD}
 use Rattle.refusals.specs.declared.Verdict.{Verdict}
 use Rattle.refusals.specs.declared.Verdict.the-variants.{Accepted, Refused}
-use Rattle.refusals.proofs.Verdicts.{first-accepted, next-accepted, check-passed}
+use Rattle.refusals.proofs.Verdicts.{first-accepted, next-accepted, check-passed, both}
 use Rattle.simplex.specs.Shape.{leastSymbols, mostSymbols, SymbolsInRange, limitOf}
 use Rattle.simplex.specs.Limit.{total}
 use Rattle.audit.specs.declared.Rest.{Rest}
@@ -18,7 +18,7 @@ use Rattle.audit.specs.declared.Audited.{Audited}
 use Rattle.audit.specs.declared.Audited.the-variants.{Yes, No, Refused as NotAudited}
 use Rattle.audit.specs.Plan.{Pair, isPlan}
 use Rattle.audit.specs.Audit.{countsRefusal, pairsOf, isPlanOf, restOf, answer, auditOf, RequestOf, bytesOf, PlanIn}
-use Rattle.audit.proofs.Reading.{both, sound, complete}
+use Rattle.audit.proofs.Reading.{sound, complete}
 use Rattle.audit.proofs.Served.{limit}
 use Rattle.audit.proofs.Requests.{all-zero, zero-all}
 use Rattle.audit.proofs.Walk.{not-as-many}

@@ -1,6 +1,6 @@
 -- The test of a plan passes exactly the lists of pairs that are a plan in words.
 use mathlib.Core.Path.{_≡_, refl, sym, ap, ap₂, _∙_}
-use mathlib.Core.Logic.{_↔_, _⊎_, inl, inr, ⊎-elim}
+use mathlib.Core.Logic.{_⊎_, inl, inr, ⊎-elim}
 use mathlib.Core.Bool.{Bool, true, false, not, _&&_, _||_, false≢true, or-true}
 use mathlib.Core.List.{List, [], _∷_, _++_}
 use Prim.Native.Nat.{ℕ, zero, suc, _+_, _<_, suc-le-suc}
@@ -9,15 +9,12 @@ use native.Mathlib.Omega.{arith}
 use borrow.Author.Tests.{leb-true, ltb-true, eqb-true, le-leb, lt-ltb, eq-eqb, ne-eqb}
 use lib.Dec.{eqb}
 use lib.ListN.{length, getD}
+use Rattle.refusals.proofs.Verdicts.{both}
 use Rattle.simplex.specs.Code.{Banks}
 use Rattle.simplex.specs.Limit.{total, readsOf, In}
 use Rattle.simplex.proofs.Requests.{length-reads}
 use Rattle.audit.specs.Plan.{Pair, opens, opened, serves, servesAll, banksOpened, among, noneTwice, isPlan, Serves, start, pairAt, IsPlan}
 use Rattle.audit.proofs.Places.{place-less, read-at, locate}
-
-pub both : (t u : Bool) → ((t && u) ≡ true) ↔ ((t ≡ true) × (u ≡ true))
-both true u = (λ e. (refl, e), λ h. h .1)
-both false u = (λ e. absurd (false≢true e), λ h. h .0)
 
 -- ---- each pair serves its read
 

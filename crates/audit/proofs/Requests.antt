@@ -9,9 +9,9 @@ use borrow.Author.Tests.{le-leb, lt-leb, eq-eqb, eqb-true}
 use lib.Dec.{eqb}
 use lib.ListN.{length, getD, drop, drop-of-length-le, replicate, length-replicate, getD-replicate, List·getD-append}
 use lib.Seq.{drop-cons, getD-append-add}
+use Rattle.refusals.proofs.Verdicts.{both}
 use Rattle.simplex.specs.Limit.{total, readsFrom}
 use Rattle.audit.specs.Audit.{allZero, restOf}
-use Rattle.audit.proofs.Reading.{both}
 
 module _ (counts : List ℕ) (i : ℕ) (h : i < length counts) where
   pub zero-at : allZero (drop i counts) ≡ (eqb (getD counts i 0) 0 && allZero (drop (i + 1) counts))

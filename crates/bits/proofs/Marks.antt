@@ -3,7 +3,7 @@ use mathlib.Core.Path.{_≡_, refl, sym, ap, ap₂, _∙_}
 use mathlib.Core.Logic.{_≢_, ⊎-elim}
 use mathlib.Core.Bool.{Bool, true, false, not, cond}
 use Prim.Native.Nat.{ℕ, zero, suc, _+_, _-_, _*_, _/_, _%_, _^_, _≤_, _<_}
-use native.Mathlib.Nat.{div-self, div-eq-of-lt, zero-div, one-mul, pow-suc, eq-or-lt-of-le, mod-lt, mod-eq-of-lt, mod-one, add-zero}
+use native.Mathlib.Nat.{div-self, div-eq-of-lt, one-mul, pow-suc, eq-or-lt-of-le, le-of-suc-le-suc, mod-lt, mod-eq-of-lt, mod-one, add-zero}
 use native.Mathlib.Omega.{arith}
 use borrow.Author.Tests.{eq-eqb, eqb-true, eqb-false}
 use lib.Arith.{bin-ind}
@@ -80,6 +80,15 @@ none-more test n (suc w) l off =
     ⊎-elim (λ (e : n ≡ suc w). ap (howMany test) (sym e))
     (λ (b : n < suc w). rw (none-more test n w (omega arith) off, off w (omega arith), add-zero (howMany test n)))
     (eq-or-lt-of-le l)
+
+-- one number more passes, and all others as before
+pub one-more : (f g : ℕ → Bool) (i n : ℕ) → i < n → f i ≡ false → g i ≡ true → ((j : ℕ) → j ≢ i → g j ≡ f j) → howMany g n ≡ suc (howMany f n)
+one-more f g i zero l off on same = absurd (omega arith)
+one-more f g i (suc n) l off on same =
+    ⊎-elim
+    (λ (e : i ≡ n). rw (← e, off, on, same-many g f i (λ j b. same j (λ s. omega arith))) (omega arith))
+    (λ (b : i < n). rw (one-more f g i n b off on same, same n (λ s. omega arith)) (omega arith))
+    (eq-or-lt-of-le (le-of-suc-le-suc l))
 
 cond-digit : (d : ℕ) → d < 2 → cond (eqb d 1) 1 0 ≡ d
 cond-digit = digit (λ (d : ℕ). cond (eqb d 1) 1 0 ≡ d) refl refl

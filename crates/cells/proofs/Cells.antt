@@ -6,7 +6,7 @@ use Prim.Native.Nat.{ℕ, zero, suc, _+_, _-_, _≤_, _<_}
 use native.Mathlib.Nat.{not-suc-le-zero, le-of-suc-le-suc, suc-add, zero-add}
 use native.Mathlib.Omega.{arith}
 use lib.ListN.{length, getD, take, drop, length-drop}
-use lib.Seq.{getD-take, getD-drop, ext-getD, length-take-le}
+use lib.Seq.{getD-take, getD-drop, ext-getD, length-take-le, take-take, drop-drop}
 use Rattle.cells.specs.Cell.{cell, put}
 
 pub length-put : (s : List ℕ) (at : ℕ) (c : List ℕ) → length (put s at c) ≡ length s
@@ -61,6 +61,16 @@ getD-cell s at p j h = getD-take p (drop at s) j 0 h ∙ getD-drop at s j 0
 -- the part of a slice that is lent from index at to at + p
 pub cell-part : (s : List ℕ) (at p : ℕ) → take (at + p - at) (drop at s) ≡ cell s at p
 cell-part s at p = let e : at + p - at ≡ p = omega arith in rw e
+
+-- a cell of the first n bytes, and of a cell
+cell-take : (s : List ℕ) (n at p : ℕ) → at + p ≤ n → cell (take n s) at p ≡ cell s at p
+cell-take s n zero p h = take-take p n s (omega arith)
+cell-take s zero (suc at) p h = absurd (omega arith)
+cell-take [] (suc n) (suc at) p h = refl
+cell-take (x ∷ s) (suc n) (suc at) p h = cell-take s n at p (omega arith)
+
+pub cell-cell : (s : List ℕ) (from n at p : ℕ) → at + p ≤ n → cell (cell s from n) at p ≡ cell s (from + at) p
+cell-cell s from n at p h = cell-take (drop from s) n at p h ∙ ap (take p) (drop-drop at from s)
 
 pub cell-put : (s : List ℕ) (at : ℕ) (c : List ℕ) (p : ℕ) → length c ≡ p → at + p ≤ length s → cell (put s at c) at p ≡ c
 cell-put s at c p e h =

@@ -1,11 +1,12 @@
 -- What an accepted verdict tells: every check of it is passed.
 use mathlib.Core.Path.{_≡_, refl}
-use mathlib.Core.Bool.{Bool, true, false}
+use mathlib.Core.Logic.{_↔_}
+use mathlib.Core.Bool.{Bool, true, false, _&&_, false≢true}
 use Prim.Native.Nat.{ℕ}
 use native.Mathlib.Omega.{arith}
 use Rattle.refusals.specs.declared.Verdict.{Verdict}
 use Rattle.refusals.specs.declared.Verdict.the-variants.{Accepted, Refused}
-use Rattle.refusals.specs.Verdict.{check, _then_}
+use Rattle.refusals.specs.Verdict.{check, _then_, passed}
 
 not-accepted : {A : Type 0} (number place : ℕ) → Refused number place ≡ Accepted → A
 not-accepted number place e = absurd (let z : _≡_ {A = ℕ} 0 1 = cc in omega arith)
@@ -21,3 +22,12 @@ next-accepted (Refused number place) next e = not-accepted number place e
 pub check-passed : (number place : ℕ) (test : Bool) → check number place test ≡ Accepted → test ≡ true
 check-passed number place true e = refl
 check-passed number place false e = not-accepted number place e
+
+pub passed-accepted : (v : Verdict) → passed v ≡ true → v ≡ Accepted
+passed-accepted Accepted e = refl
+passed-accepted (Refused number place) e = absurd (false≢true e)
+
+-- two tests in one
+pub both : (t u : Bool) → ((t && u) ≡ true) ↔ ((t ≡ true) × (u ≡ true))
+both true u = (λ e. (refl, e), λ h. h .1)
+both false u = (λ e. absurd (false≢true e), λ h. h .0)

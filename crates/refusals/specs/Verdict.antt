@@ -9,6 +9,16 @@ abbrev pub check : (number place : ℕ) → Bool → Verdict
 check number place true = Accepted
 check number place false = Refused number place
 
+-- Whether it is accepted.
+abbrev pub passed : Verdict → Bool
+passed Accepted = true
+passed (Refused number place) = false
+
+-- The first where the verdict is a refusal, else the second.
+abbrev pub ifRefused : {A : Type 0} → (refused accepted : A) → Verdict → A
+ifRefused refused accepted Accepted = accepted
+ifRefused refused accepted (Refused number place) = refused
+
 infixr 20 _then_
 -- The first refusal of the two.
 abbrev pub _then_ : Verdict → Verdict → Verdict

@@ -52,6 +52,14 @@ module _ (P : ℕ) (packets : List Packet) (place : ℕ → ℕ) where
   unfolding filled
   filled-none s = refl
 
+  -- placings that agree on banks 1 to n fill alike
+  pub filled-same : (other : ℕ → ℕ) (n : ℕ) (s : List ℕ) → ((b : ℕ) → 1 ≤ b → b ≤ n → place b ≡ other b)
+      → filled P packets place n s ≡ filled P packets other n s
+  unfolding filled
+  filled-same other zero s same = refl
+  filled-same other (suc n) s same =
+      rw (same (suc n) (omega arith) (omega arith), filled-same other n s (λ b l u. same b l (omega arith)))
+
   module _ (h : Sized P packets) where
     pub filled-bank : (n : ℕ) (s : List ℕ) → Room P place n (length s) → (b : ℕ) → 1 ≤ b → b ≤ n
         → cell (filled P packets place n s) (place b) P ≡ bankCell P packets b
@@ -67,6 +75,16 @@ module _ (P : ℕ) (packets : List Packet) (place : ℕ → ℕ) where
         cell-put-out older (place (suc n)) c (place b) P (inl (r .rising b (suc n) l m (omega arith))) (rw len (r .within b l u))
         ∙ filled-bank n s (fewer n (omega arith) r) b l (omega arith))
         (eq-or-lt-of-le u)
+
+    -- a cell apart from all of them is as it was
+    pub filled-apart : (n : ℕ) (s : List ℕ) (at : ℕ) → ((b : ℕ) → 1 ≤ b → b ≤ n → (at + P ≤ place b) ⊎ (place b + P ≤ at)) → at + P ≤ length s
+        → cell (filled P packets place n s) at P ≡ cell s at P
+    unfolding filled
+    filled-apart zero s at out fits = refl
+    filled-apart (suc n) s at out fits =
+        cell-put-out (filled P packets place n s) (place (suc n)) (bankCell P packets (suc n)) at P
+        (rw (length-bank P packets (suc n) h) (out (suc n) (omega arith) (omega arith))) (rw (length-filled n s) fits)
+        ∙ filled-apart n s at (λ b l u. out b l (omega arith)) fits
 
     filled-other : (n : ℕ) (s : List ℕ) (x : ℕ) → ((b : ℕ) → 1 ≤ b → b ≤ n → (x < place b) ⊎ (place b + P ≤ x))
         → getD (filled P packets place n s) x 0 ≡ getD s x 0

@@ -1,8 +1,6 @@
 -- `bits::none_from` meets its contract: a word has no mark from 64 on.
 use native.Mathlib.Nat.{div-eq-of-lt}
-use native.Mathlib.Omega.{arith}
 use borrow.Author.Needs.{needs}
-use borrow.Author.Tests.{eq-eqb}
 use Rattle.bits.proofs.none_from.Statement.{statement}
 use Rattle.bits.proofs.none_from.Tie as tie
 
