@@ -1,13 +1,21 @@
-// Four packets in a group of fifteen banks, and eight reads of them in one cycle: two of each packet, every bank opened once.
+// A memory of one group and two rows: four packets written to a row, spread over fifteen banks, and eight reads of them in one cycle, two of each
+// packet, every bank opened once.
 ghost use mathlib.Core.Path.{_≡_};
 ghost use Prim.Native.Nat.{_+_, _*_, _≤_};
 ghost use lib.ListN.{length};
 use libc::STDOUT_FILENO;
+use memory::Answer;
+use memory::Outcome;
+use memory::State;
 
-// The symbols of the group, and the bytes of a packet.
+// The symbols of the group, the bytes of a packet, the rows, and the row that is written.
 const K: usize = 4;
 
 const P: usize = 5;
+
+const G: usize = 2;
+
+const ROW: usize = 1;
 
 fn text(t: &[u8]) {
     io::write_all(STDOUT_FILENO, t);
@@ -21,12 +29,12 @@ fn byte(b: u8) {
     io::print_hex(STDOUT_FILENO, b as u64, 2);
 }
 
-// Where a bank's cell lies in the store, which has one row.
+// Where a bank's cell of the row lies in the store.
 fn place(bank: usize) -> usize
     requires { ⌜ (1 ≤ bank) × (bank ≤ 15) ⌝ }
-    ensures { λ r. ⌜ r + 5 ≡ bank * 5 ⌝ }
+    ensures { λ r. ⌜ r + 5 ≡ bank * 10 ⌝ }
 {
-    (bank - 1) * P
+    ((bank - 1) * G + ROW) * P
 }
 
 fn hexadecimal(bytes: &[u8]) {
@@ -37,9 +45,24 @@ fn hexadecimal(bytes: &[u8]) {
     }
 }
 
-// What a bank holds.
+fn print_answer(outcome: Outcome) {
+    let answer = outcome.answer;
+    match answer {
+        Answer::FullRows(rows) => {
+            text(b"full rows ");
+            number(rows);
+        }
+        Answer::Refused(reason, _) => {
+            text(b"refused with ");
+            number(reason as usize);
+        }
+    }
+    text(b"\n");
+}
+
+// What a bank holds in the row.
 fn print_bank(store: &[u8], bank: u32)
-    requires { ⌜ (length (now store) ≡ 75) × (1 ≤ bank) × (bank ≤ 15) ⌝ }
+    requires { ⌜ (length (now store) ≡ 150) × (1 ≤ bank) × (bank ≤ 15) ⌝ }
 {
     let at = place(bank as usize);
     text(b"bank ");
@@ -52,7 +75,7 @@ fn print_bank(store: &[u8], bank: u32)
 }
 
 fn print_banks(store: &[u8])
-    requires { ⌜ length (now store) ≡ 75 ⌝ }
+    requires { ⌜ length (now store) ≡ 150 ⌝ }
 {
     let mut bank = 1;
     while bank <= 15 {
@@ -63,7 +86,7 @@ fn print_banks(store: &[u8])
 
 // The packet that banks `a` and `b` give; where `b` is 0, that of bank `a` alone.
 fn packet(store: &[u8], a: usize, b: usize) -> [u8; 5]
-    requires { ⌜ (length (now store) ≡ 75) × (1 ≤ a) × (a ≤ 15) × (b ≤ 15) ⌝ }
+    requires { ⌜ (length (now store) ≡ 150) × (1 ≤ a) × (a ≤ 15) × (b ≤ 15) ⌝ }
 {
     let mut out = [0u8; 5];
     let at = place(a);
@@ -76,7 +99,7 @@ fn packet(store: &[u8], a: usize, b: usize) -> [u8; 5]
 }
 
 fn print_read(store: &[u8], symbol: usize, a: usize, b: usize)
-    requires { ⌜ (length (now store) ≡ 75) × (1 ≤ a) × (a ≤ 15) × (b ≤ 15) ⌝ }
+    requires { ⌜ (length (now store) ≡ 150) × (1 ≤ a) × (a ≤ 15) × (b ≤ 15) ⌝ }
 {
     let out = packet(store, a, b);
     text(b"packet ");
@@ -100,8 +123,14 @@ fn main() {
     number(group.limit);
     text(b"\n");
     let packets = *b"northeast.southwest.";
-    let mut space = [0u8; 75];
-    simplex::fill_group(&mut space, 0, P, &packets, P, K);
+    let mut space = [0u8; 150];
+    let new = State::set_up(K, 1, P, G);
+    let written = new.state.write(&mut space, ROW, &packets);
+    text(b"write to row 1: ");
+    print_answer(written);
+    let again = written.state.write(&mut space, ROW, &packets);
+    text(b"write to row 1: ");
+    print_answer(again);
     let store: &[u8] = &space;
     print_banks(store);
     print_read(store, 0, 5, 4);
@@ -112,4 +141,7 @@ fn main() {
     print_read(store, 2, 14, 10);
     print_read(store, 3, 8, 0);
     print_read(store, 3, 15, 7);
+    let released = again.state.release(ROW);
+    text(b"release of row 1: ");
+    print_answer(released);
 }

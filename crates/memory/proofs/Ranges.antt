@@ -1,0 +1,83 @@
+-- Set-up's ranges and "not broken", as tests and in words; the sizes that fit them.
+use mathlib.Core.Path.{_≡_}
+use mathlib.Core.Bool.{true}
+use Prim.Native.Nat.{ℕ, _-_, _*_, _^_, _≤_}
+use native.Mathlib.Nat.{mul-le-mul}
+use native.Mathlib.Omega.{arith}
+use borrow.Author.Tests.{le-leb, leb-true}
+use lib.Dec.{leb}
+use lib.Pow.{pow-mono}
+use Rattle.bits.specs.Marks.{noneFrom}
+use Rattle.bits.proofs.Marks.{none-marked, marked-none}
+use Rattle.refusals.specs.declared.Verdict.the-variants.{Accepted}
+use Rattle.refusals.specs.Verdict.{passed}
+use Rattle.refusals.proofs.Verdicts.{first-accepted, next-accepted, check-passed, passed-accepted, both}
+use Rattle.simplex.specs.Shape.{leastSymbols, mostSymbols}
+use Rattle.memory.specs.declared.Shape.{Shape}
+use Rattle.memory.specs.declared.State.{State}
+use Rattle.memory.specs.Shape.{mostGroups, mostBytes, mostRows, between, shapeRefusal, InRange, banks}
+use Rattle.memory.specs.State.{sound, Sound}
+
+ruleset checks = (first-accepted, next-accepted, check-passed)
+
+between-words : (low high n : ℕ) → between low high n ≡ true → (low ≤ n) × (n ≤ high)
+between-words low high n e = let t = both (leb low n) (leb n high) .0 e in (leb-true low n (t .0), leb-true n high (t .1))
+
+words-between : (low high n : ℕ) → (low ≤ n) × (n ≤ high) → between low high n ≡ true
+words-between low high n w = rw (le-leb low n (w .0), le-leb n high (w .1))
+
+-- ---- the ranges of a shape
+
+pub range-words : (sh : Shape) → shapeRefusal sh ≡ Accepted → InRange sh
+unfolding shapeRefusal
+range-words sh e =
+    let k : between leastSymbols mostSymbols (sh .k) ≡ true = search checks in
+    let m : between 1 mostGroups (sh .m) ≡ true = search checks in
+    let p : between 1 mostBytes (sh .p) ≡ true = search checks in
+    let g : between 1 mostRows (sh .g) ≡ true = search checks in
+    let symbols = between-words _ _ _ k in
+    record {
+      symbols = record { least = symbols .0; most = symbols .1 };
+      groups = between-words _ _ _ m;
+      bytes = between-words _ _ _ p;
+      rows = between-words _ _ _ g;
+    }
+
+pub words-range : (sh : Shape) → InRange sh → shapeRefusal sh ≡ Accepted
+unfolding shapeRefusal
+words-range sh w = rw (
+  words-between leastSymbols mostSymbols (sh .k) (w .symbols .least, w .symbols .most),
+  words-between 1 mostGroups (sh .m) (w .groups),
+  words-between 1 mostBytes (sh .p) (w .bytes),
+  words-between 1 mostRows (sh .g) (w .rows),
+)
+
+-- ---- a state that is not broken
+
+pub words-sound : (st : State) → Sound st → sound st ≡ true
+unfolding sound
+words-sound st w = rw (words-range (st .shape) (w .ranges), marked-none (st .full) (st .shape .g) (w .rows))
+
+pub sound-words : (st : State) → sound st ≡ true → Sound st
+unfolding sound
+sound-words st e =
+    let t = both (passed (shapeRefusal (st .shape))) (noneFrom (st .full) (st .shape .g)) .0 e in
+    record { ranges = range-words (st .shape) (passed-accepted _ (t .0)); rows = none-marked (st .full) (st .shape .g) (t .1) }
+
+-- ---- sizes: no product of the numbers of a shape in range is large
+
+pub few-banks : (sh : Shape) → InRange sh → banks sh ≤ 31
+few-banks sh w = let l : 2 ^ sh .k ≤ 2 ^ mostSymbols = pow-mono (w .symbols .most) in omega arith
+
+pub row-bytes : (sh : Shape) → InRange sh → sh .g * sh .p ≤ mostRows * mostBytes
+row-bytes sh w = mul-le-mul (w .rows .1) (w .bytes .1)
+
+pub group-bytes : (sh : Shape) → InRange sh → sh .k * sh .p ≤ mostSymbols * mostBytes
+group-bytes sh w = mul-le-mul (w .symbols .most) (w .bytes .1)
+
+-- what is at most most, by rows and bytes
+pub scaled : (sh : Shape) → InRange sh → (n most : ℕ) → n ≤ most → (n * sh .g ≤ most * mostRows) × (n * sh .p ≤ most * mostBytes)
+scaled sh w n most l = (mul-le-mul l (w .rows .1), mul-le-mul l (w .bytes .1))
+
+pub all-banks : (sh : Shape) (x : ℕ) → InRange sh → x ≤ mostGroups → x * banks sh ≤ mostGroups * 31
+all-banks sh x w l = mul-le-mul l (few-banks sh w)

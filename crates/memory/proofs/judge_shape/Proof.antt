@@ -1,0 +1,72 @@
+-- `memory::judge_shape` meets its contract: each test in its order.
+use mathlib.Core.Bool.{true}
+use mathlib.Core.Path.{_≡_, sym, _∙_}
+use borrow.Author.Needs.{needs}
+use borrow.Author.Tests.{not-true, not-false}
+use Rattle.simplex.specs.Shape.{leastSymbols, mostSymbols}
+use Rattle.memory.specs.Shape.{mostGroups, mostBytes, between, shapeRefusal}
+use Rattle.memory.proofs.judge_shape.Statement.{statement}
+use Rattle.memory.proofs.judge_shape.Tie as tie
+
+-- past each test
+k-in : (c : tie.Else1) → between leastSymbols mostSymbols (c .before .before .args .shape .k) ≡ true
+k-in c = sym (c .before .is-between .ensures) ∙ not-false _ (c .if1 .left)
+
+m-in : (c : tie.Else2) → between 1 mostGroups (c .before .before .before .before .args .shape .m) ≡ true
+m-in c = sym (c .before .is-between2 .ensures) ∙ not-false _ (c .if2 .left)
+
+p-in : (c : tie.Else3) → between 1 mostBytes (c .before .before .before .before .before .before .args .shape .p) ≡ true
+p-in c = sym (c .before .is-between3 .ensures) ∙ not-false _ (c .if3 .left)
+
+is-between-requires : tie.Need-is-between-requires
+is-between-requires c κs = search needs
+
+returns : tie.Need-returns
+unfolding shapeRefusal
+returns c = rw (sym (c .before .is-between .ensures) ∙ not-true _ (c .if1 .taken))
+
+is-between-requires-2 : tie.Need-is-between-requires-2
+is-between-requires-2 c κs = search needs
+
+returns-2 : tie.Need-returns-2
+unfolding shapeRefusal
+returns-2 c = rw (k-in (c .before .before), sym (c .before .is-between2 .ensures) ∙ not-true _ (c .if2 .taken))
+
+is-between-requires-3 : tie.Need-is-between-requires-3
+is-between-requires-3 c κs = search needs
+
+returns-3 : tie.Need-returns-3
+unfolding shapeRefusal
+returns-3 c =
+    let e = c .before .before in rw (k-in (e .before .before), m-in e, sym (c .before .is-between3 .ensures) ∙ not-true _ (c .if3 .taken))
+
+is-between-requires-4 : tie.Need-is-between-requires-4
+is-between-requires-4 c κs = search needs
+
+returns-4 : tie.Need-returns-4
+unfolding shapeRefusal
+returns-4 c =
+    let e = c .before .before in
+    let d = e .before .before in
+    rw (k-in (d .before .before), m-in d, p-in e, sym (c .before .is-between4 .ensures) ∙ not-true _ (c .if4 .taken))
+
+returns-5 : tie.Need-returns-5
+unfolding shapeRefusal
+returns-5 c =
+    let e = c .before .before in
+    let d = e .before .before in
+    rw (k-in (d .before .before), m-in d, p-in e, sym (c .before .is-between4 .ensures) ∙ not-false _ (c .if4 .left))
+
+pub judge-shape-spec : {M : Type 1} → statement M
+judge-shape-spec =
+    tie.close
+    (tie.spec
+    is-between-requires
+    returns
+    is-between-requires-2
+    returns-2
+    is-between-requires-3
+    returns-3
+    is-between-requires-4
+    returns-4
+    returns-5)

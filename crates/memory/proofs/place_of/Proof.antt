@@ -1,0 +1,67 @@
+-- `memory::place_of` meets its contract: the products fit.
+use mathlib.Core.Path.{_≡_, ap}
+use Prim.Native.Nat.{ℕ, _+_, _-_, _*_, _≤_}
+use native.Mathlib.Omega.{arith}
+use borrow.Author.Needs.{needs}
+use Rattle.simplex.specs.declared.Group.{Group}
+use Rattle.memory.specs.Shape.{mostGroups, mostRows, banks, offset}
+use Rattle.memory.proofs.Ranges.{few-banks, all-banks, scaled}
+use Rattle.memory.proofs.place_of.Statement.{statement}
+use Rattle.memory.proofs.place_of.Tie as tie
+
+banks-are : (c : tie.After-group-of) → c .group-of .result .banks ≡ banks (c .before .args .shape)
+banks-are c = ap (λ (g : Group). g .banks) (c .group-of .ensures)
+
+few : (c : tie.After-group-of) → c .before .args .x * c .group-of .result .banks + c .before .args .b ≤ mostGroups * 31 + 31
+few c =
+    let w = c .before .pre in
+    let sh = c .before .args .shape in
+    rw (banks-are c) (omega (arith, all-banks sh (c .before .args .x) (w .0) (omega (arith, w .1 .group, w .0 .groups .1)), few-banks sh (w .0), w .1 .last))
+
+-- how many cells of its group come before it, and how many rows of cells
+abbrev Before : tie.After-group-of → ℕ
+Before c = c .before .args .x * c .group-of .result .banks + c .before .args .b - 1
+
+rows : (c : tie.After-group-of) → Before c * c .before .args .shape .g ≤ (mostGroups * 31 + 31) * mostRows
+rows c = let l : Before c ≤ mostGroups * 31 + 31 = omega (arith, few c) in scaled _ (c .before .pre .0) _ _ l .0
+
+cells : (c : tie.After-group-of) → Before c * c .before .args .shape .g + c .before .args .r ≤ (mostGroups * 31 + 31) * mostRows + mostRows
+cells c = omega (arith, rows c, c .before .pre .1 .row, c .before .pre .0 .rows .1)
+
+group-of-requires : tie.Need-group-of-requires
+group-of-requires c κs = c .pre .0 .symbols
+
+mul-result : tie.Need-mul-result
+mul-result c = omega (arith, few (c .before))
+
+add-result : tie.Need-add-result
+add-result c = omega (arith, few (c .before))
+
+sub-result : tie.Need-sub-result
+sub-result c = search needs
+
+mul-result-2 : tie.Need-mul-result-2
+mul-result-2 c = omega (arith, rows (c .before .before))
+
+add-result-2 : tie.Need-add-result-2
+add-result-2 c = omega (arith, cells (c .before .before))
+
+mul-result-3 : tie.Need-mul-result-3
+mul-result-3 c = let d = c .before .before .before in omega (arith, scaled _ (d .before .pre .0) _ _ (cells d) .1)
+
+returns : tie.Need-returns
+unfolding offset
+returns c = rw (banks-are (c .before .before .before))
+
+pub place-of-spec : {M : Type 1} → statement M
+place-of-spec =
+    tie.close
+    (tie.spec
+    group-of-requires
+    mul-result
+    add-result
+    sub-result
+    mul-result-2
+    add-result-2
+    mul-result-3
+    returns)

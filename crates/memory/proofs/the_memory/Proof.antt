@@ -1,0 +1,52 @@
+-- `memory::the_memory` carries the laws of the memory.
+use mathlib.Core.Path.{_≡_, refl}
+use mathlib.Core.Bool.{Bool, true, false}
+use mathlib.Core.List.{List}
+use Prim.Native.Nat.{ℕ}
+use lib.ListN.{length}
+use Rattle.refusals.specs.declared.Verdict.the-variants.{Accepted, Refused}
+use Rattle.memory.specs.declared.State.{State}
+use Rattle.memory.specs.State.{sound, Sound}
+use Rattle.memory.specs.Operations.{writeRefusal, writeOutcome, writeStore, releaseRefusal, releaseOutcome}
+use Rattle.memory.specs.Laws.{Written, OneMore}
+use Rattle.memory.proofs.Ranges.{range-words, words-range, sound-words, words-sound}
+use Rattle.memory.proofs.Accepted.{written-facts, released-facts}
+use Rattle.memory.proofs.Places.{inside, apart}
+use Rattle.memory.proofs.Turning.{row-filled, row-emptied}
+use Rattle.memory.proofs.Writing.{packet-in, row-written}
+use Rattle.memory.proofs.Histories.{after-any-history}
+use Rattle.memory.proofs.the_memory.Statement.{statement}
+use Rattle.memory.proofs.the_memory.Tie as tie
+
+not-sound : (st : State) → (Sound st → ⊥) → (t : Bool) → sound st ≡ t → sound st ≡ false
+not-sound st h true e = absurd (h (sound-words st e))
+not-sound st h false e = e
+
+broken : (st : State) → (Sound st → ⊥) → (size row len : ℕ) → (writeRefusal st size row len ≡ Refused 5 0) × (releaseRefusal st row ≡ Refused 5 0)
+unfolding writeRefusal releaseRefusal
+broken st h size row len = let e = not-sound st h (sound st) refl in (rw e, rw e)
+
+written : (st : State) (s : List ℕ) (row : ℕ) (generation : List ℕ) → writeRefusal st (length s) row (length generation) ≡ Accepted
+    → Written (st .shape) row generation s (writeStore st s row generation) × OneMore row st (writeOutcome st (length s) row (length generation) .state)
+written st s row generation e =
+    let w = written-facts st (length s) row (length generation) e in
+    rw e (row-written (st .shape) row generation s (w .below) (w .store) (w .whole), row-filled st row (w .below) (w .empty))
+
+released : (st : State) (row : ℕ) → releaseRefusal st row ≡ Accepted → OneMore row (releaseOutcome st row .state) st
+released st row e = let w = released-facts st row e in rw e (row-emptied st row (w .below) (w .full))
+
+returns : tie.Need-returns
+returns c = record {
+  ranges = λ sh. (range-words sh, words-range sh);
+  states = λ st. (sound-words st, words-sound st);
+  broken = broken;
+  inside = inside;
+  apart = apart;
+  packets = packet-in;
+  written = written;
+  released = released;
+  histories = after-any-history;
+}
+
+pub the-memory-spec : {M : Type 1} → statement M
+the-memory-spec = tie.close (tie.spec returns)

@@ -1,0 +1,113 @@
+-- Histories: what a memory holds after any operations, each with the state and the store that the one before left.
+use mathlib.Core.Path.{_≡_}
+use mathlib.Core.Bool.{Bool, true, false, cond, not}
+use mathlib.Core.List.{List, [], _∷_}
+use Prim.Native.Nat.{ℕ, _+_}
+use lib.Dec.{eqb, ltb}
+use lib.ListN.{length}
+use Rattle.bits.specs.Marks.{howMany}
+use Rattle.refusals.specs.declared.Verdict.{Verdict}
+use Rattle.refusals.specs.declared.Verdict.the-variants.{Accepted}
+use Rattle.refusals.specs.Verdict.{check, _then_, ifRefused}
+use Rattle.simplex.specs.Code.{bankCell}
+use Rattle.memory.specs.declared.Shape.{Shape}
+use Rattle.memory.specs.declared.State.{State}
+use Rattle.memory.specs.declared.Outcome.{Outcome}
+use Rattle.memory.specs.Shape.{storeSize, generationSize, CellOf, cellAt}
+use Rattle.memory.specs.State.{isFull, fullRows, Sound}
+use Rattle.memory.specs.Operations.{setUpOf, answerBy, packetsIn, writeOutcome, writeStore, releaseOutcome}
+
+-- What may be asked of a memory: a write of a generation to a row, a release of a row.
+pub data Operation : Type 0 where
+  write : (row : ℕ) (generation : List ℕ) → Operation
+  release : (row : ℕ) → Operation
+
+-- The operations since set-up, the last one first.
+abbrev pub History : Type 0
+History = List Operation
+
+-- ---- what a memory does, by the definitions that the operations' promises cite. A release is lent no store.
+
+pub record Memory : Type 0 where
+  pub state : State
+  pub store : List ℕ
+
+abbrev pub outcomeOf : Memory → Operation → Outcome
+outcomeOf memory (write row generation) = writeOutcome (memory .state) (length (memory .store)) row (length generation)
+outcomeOf memory (release row) = releaseOutcome (memory .state) row
+
+abbrev pub storeAfter : Memory → Operation → List ℕ
+storeAfter memory (write row generation) = writeStore (memory .state) (memory .store) row generation
+storeAfter memory (release row) = memory .store
+
+abbrev pub step : Memory → Operation → Memory
+step memory operation = record { state = outcomeOf memory operation .state; store = storeAfter memory operation }
+
+abbrev pub run : Memory → History → Memory
+run new [] = new
+run new (operation ∷ history) = step (run new history) operation
+
+-- ---- what the history says by itself: no state and no store, but for the shape
+
+-- The verdict on an operation, where these rows are full. After no history is the state broken or the store of a wrong length: there is no 5 and no 6.
+abbrev pub verdictIn : Shape → (ℕ → Bool) → Operation → Verdict
+verdictIn sh full (write row generation) =
+    check 7 0 (ltb row (sh .g)) then check 8 0 (not (full row)) then check 10 0 (eqb (length generation) (generationSize sh))
+verdictIn sh full (release row) = check 7 0 (ltb row (sh .g)) then check 9 0 (full row)
+
+-- The full rows after an accepted operation, and what was then last written to each.
+abbrev pub fullBy : Operation → (ℕ → Bool) → ℕ → Bool
+fullBy (write row generation) full r = cond (eqb row r) true (full r)
+fullBy (release row) full r = cond (eqb row r) false (full r)
+
+abbrev pub writtenBy : Operation → (ℕ → List ℕ) → ℕ → List ℕ
+writtenBy (write row generation) last r = cond (eqb row r) generation (last r)
+writtenBy (release row) last r = last r
+
+-- Row r is full: of the accepted operations on it, the last was a write.
+abbrev pub fullIn : Shape → History → ℕ → Bool
+fullIn sh [] = λ r. false
+fullIn sh (operation ∷ history) = ifRefused (fullIn sh history) (fullBy operation (fullIn sh history)) (verdictIn sh (fullIn sh history) operation)
+
+-- The generation last written to row r by an accepted write, also where it was released since; nothing where there was none.
+abbrev pub lastWritten : Shape → History → ℕ → List ℕ
+lastWritten sh [] = λ r. []
+lastWritten sh (operation ∷ history) =
+    ifRefused (lastWritten sh history) (writtenBy operation (lastWritten sh history)) (verdictIn sh (fullIn sh history) operation)
+
+-- How many rows accepted operations made full, or made empty.
+abbrev pub filledBy : Operation → ℕ
+filledBy (write row generation) = 1
+filledBy (release row) = 0
+
+abbrev pub emptiedBy : Operation → ℕ
+emptiedBy (write row generation) = 0
+emptiedBy (release row) = 1
+
+abbrev pub inAll : (Operation → ℕ) → Shape → History → ℕ
+inAll rows sh [] = 0
+inAll rows sh (operation ∷ history) = ifRefused 0 (rows operation) (verdictIn sh (fullIn sh history) operation) + inAll rows sh history
+
+-- ---- how the two agree
+
+-- shape, sound, size: the shape is that of set-up, the state is not broken, and the store has its length.
+-- marks, count: the rows that are full are those of the history, and as many as accepted writes less accepted releases.
+-- cells, whole: every cell of a full row is what the code puts there for the generation last written, which has the right length.
+-- answers: the next operation is refused as the history says; accepted, it answers the number of rows that are full with it.
+pub record Remembers (sh : Shape) (history : History) (memory : Memory) : Type 0 where
+  pub shape : memory .state .shape ≡ sh
+  pub sound : Sound (memory .state)
+  pub size : length (memory .store) ≡ storeSize sh
+  pub marks : (r : ℕ) → isFull (memory .state) r ≡ fullIn sh history r
+  pub count : fullRows (memory .state) + inAll emptiedBy sh history ≡ inAll filledBy sh history
+  pub cells : (x b r : ℕ) → CellOf sh x b r → fullIn sh history r ≡ true
+      → cellAt sh (memory .store) x b r ≡ bankCell (sh .p) (packetsIn sh (lastWritten sh history r) x) b
+  pub whole : (r : ℕ) → fullIn sh history r ≡ true → length (lastWritten sh history r) ≡ generationSize sh
+  pub answers : (operation : Operation) → outcomeOf memory operation .answer
+      ≡ answerBy (howMany (fullIn sh (operation ∷ history)) (sh .g)) (verdictIn sh (fullIn sh history) operation)
+
+-- So it is after every history, from an accepted set-up and any store of the right length.
+abbrev pub AfterAnyHistory : Type 0
+AfterAnyHistory =
+    (sh : Shape) → setUpOf sh .verdict ≡ Accepted → (s : List ℕ) → length s ≡ storeSize sh → (history : History)
+    → Remembers sh history (run (record { state = setUpOf sh .state; store = s }) history)

@@ -1,0 +1,6 @@
+-- The definitions of the crate: the shape and the state of a memory, its operations, its histories, and its laws.
+pub mod Shape
+pub mod State
+pub mod Operations
+pub mod History
+pub mod Laws

@@ -1,0 +1,76 @@
+-- Set-up, write and release: when each is refused, what it answers, and what state and store it leaves.
+use mathlib.Core.Bool.{not}
+use mathlib.Core.List.{List}
+use Prim.Native.Nat.{ℕ, zero, suc, _*_}
+use lib.Dec.{eqb, ltb}
+use lib.ListN.{length}
+use Rattle.refusals.specs.declared.Verdict.{Verdict}
+use Rattle.refusals.specs.declared.Verdict.the-variants.{Accepted, Refused}
+use Rattle.refusals.specs.Verdict.{check, _then_, ifRefused}
+use Rattle.cells.specs.Cell.{cell}
+use Rattle.simplex.specs.Code.{Packet}
+use Rattle.simplex.specs.Filling.{packetsOf, filled}
+use Rattle.memory.specs.declared.Shape.{Shape}
+use Rattle.memory.specs.declared.State.{State}
+use Rattle.memory.specs.declared.SetUp.{SetUp}
+use Rattle.memory.specs.declared.Outcome.{Outcome}
+use Rattle.memory.specs.declared.Answer.{Answer}
+use Rattle.memory.specs.declared.Answer.the-variants.{FullRows, Refused as NotDone}
+use Rattle.memory.specs.Shape.{shapeRefusal, banks, storeSize, generationSize, offset}
+use Rattle.memory.specs.State.{isFull, fullRows, sound, empty, zeroState, rowTurned}
+
+-- What set-up gives: a memory of that shape with every row empty, or a refusal and a state of zeros.
+abbrev pub setUpOf : Shape → SetUp
+setUpOf sh = record { state = ifRefused zeroState (empty sh) (shapeRefusal sh); verdict = shapeRefusal sh }
+
+-- An operation's answer: a refusal, or the number of full rows.
+abbrev pub answerBy : ℕ → Verdict → Answer
+answerBy rows Accepted = FullRows rows
+answerBy rows (Refused number place) = NotDone number place
+
+-- What an operation gives that makes one state into another: the state as it was where it is refused.
+abbrev pub outcomeBy : (before after : State) → Verdict → Outcome
+outcomeBy before after verdict = record { state = ifRefused before after verdict; answer = answerBy (fullRows after) verdict }
+
+-- ---- write
+
+-- 5, the state is broken. 6, the store's length is wrong. 7, the row is G or more. 8, the row is full. 10, the generation isn't m·K·P bytes.
+unfoldable pub writeRefusal : State → (size row len : ℕ) → Verdict
+writeRefusal st size row len =
+    check 5 0 (sound st)
+    then check 6 0 (eqb size (storeSize (st .shape)))
+    then check 7 0 (ltb row (st .shape .g))
+    then check 8 0 (not (isFull st row))
+    then check 10 0 (eqb len (generationSize (st .shape)))
+
+-- The packets of group x: a generation has those of group 0 in symbol order, then those of group 1, and so on.
+abbrev pub packetsIn : Shape → List ℕ → ℕ → List Packet
+packetsIn sh generation x = packetsOf (sh .p) (sh .k) (cell generation (x * (sh .k * sh .p)) (sh .k * sh .p))
+
+-- The store s with the cells of all banks of group x in a row put in, for a group of these packets.
+abbrev pub groupWritten : Shape → (x row : ℕ) → List Packet → List ℕ → List ℕ
+groupWritten sh x row packets s = filled (sh .p) packets (λ b. offset sh x b row) (banks sh) s
+
+-- The same for the first n groups of a generation.
+unfoldable pub groupsWritten : Shape → ℕ → List ℕ → ℕ → List ℕ → List ℕ
+groupsWritten sh row generation zero s = s
+groupsWritten sh row generation (suc x) s = groupWritten sh x row (packetsIn sh generation x) (groupsWritten sh row generation x s)
+
+-- The same for all m groups: the store after a write.
+abbrev pub rowWritten : Shape → ℕ → List ℕ → List ℕ → List ℕ
+rowWritten sh row generation s = groupsWritten sh row generation (sh .m) s
+
+abbrev pub writeOutcome : State → (size row len : ℕ) → Outcome
+writeOutcome st size row len = outcomeBy st (rowTurned st row) (writeRefusal st size row len)
+
+abbrev pub writeStore : State → List ℕ → ℕ → List ℕ → List ℕ
+writeStore st s row generation = ifRefused s (rowWritten (st .shape) row generation s) (writeRefusal st (length s) row (length generation))
+
+-- ---- release
+
+-- 5, the state is broken. 7, the row is G or more. 9, the row is empty.
+unfoldable pub releaseRefusal : State → ℕ → Verdict
+releaseRefusal st row = check 5 0 (sound st) then check 7 0 (ltb row (st .shape .g)) then check 9 0 (isFull st row)
+
+abbrev pub releaseOutcome : State → ℕ → Outcome
+releaseOutcome st row = outcomeBy st (rowTurned st row) (releaseRefusal st row)

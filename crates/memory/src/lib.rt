@@ -1,0 +1,259 @@
+// A memory: its shape, its state, and the operations that set it up, write a row and release one.
+ghost use mathlib.Core.Path.{_≡_};
+ghost use mathlib.Core.Bool.{true};
+ghost use Prim.Native.Nat.{_*_, _<_};
+ghost use lib.ListN.{length};
+ghost use Rattle.refusals.specs.declared.Verdict.the-variants.{Accepted};
+ghost use Rattle.simplex.specs.Filling.{packetsOf};
+ghost use Rattle.memory.specs.Shape.{between, shapeRefusal, InRange, storeSize, generationSize, CellOf, offset};
+ghost use Rattle.memory.specs.State.{sound, rowTurned};
+ghost use Rattle.memory.specs.Operations.{setUpOf, outcomeBy, writeRefusal, groupWritten, rowWritten, writeOutcome, writeStore, releaseRefusal, releaseOutcome};
+ghost use Rattle.memory.specs.Laws.{TheMemory};
+use refusals::Verdict;
+use simplex::LEAST_SYMBOLS;
+use simplex::MOST_SYMBOLS;
+
+// The most groups, bytes of a packet and rows of a memory.
+pub const MOST_GROUPS: usize = 8;
+
+pub const MOST_BYTES: usize = 2048;
+
+pub const MOST_ROWS: usize = 64;
+
+// K symbols in a group, m groups, P bytes in a packet, G rows.
+pub struct Shape {
+    pub k: usize,
+    pub m: usize,
+    pub p: usize,
+    pub g: usize,
+}
+
+// What a memory's operations are given and give back. Row r is full where it is marked in `full`.
+pub struct State {
+    pub shape: Shape,
+    pub full: u64,
+}
+
+// What set-up gives: the state, and whether it was accepted.
+pub struct SetUp {
+    pub state: State,
+    pub verdict: Verdict,
+}
+
+// What an operation answers that changes the state or the store: the number of full rows, or a refusal with its number and place.
+pub enum Answer {
+    FullRows(usize),
+    Refused(u8, usize),
+}
+
+// What such an operation gives: the state, and its answer.
+pub struct Outcome {
+    pub state: State,
+    pub answer: Answer,
+}
+
+// Carries the laws of the memory. It does nothing.
+pub fn the_memory()
+    ensures { λ _. ⌜ TheMemory ⌝ }
+{}
+
+// Whether `n` is from `low` to `high`.
+fn is_between(low: usize, high: usize, n: usize) -> bool
+    ensures { λ r. ⌜ r ≡ between low high n ⌝ }
+{
+    low <= n && n <= high
+}
+
+// Set-up's refusal of a shape: 1 to 4.
+fn judge_shape(shape: Shape) -> Verdict
+    ensures { λ r. ⌜ r ≡ shapeRefusal shape ⌝ }
+{
+    if !is_between(LEAST_SYMBOLS, MOST_SYMBOLS, shape.k) {
+        return Verdict::Refused(1, 0);
+    }
+    if !is_between(1, MOST_GROUPS, shape.m) {
+        return Verdict::Refused(2, 0);
+    }
+    if !is_between(1, MOST_BYTES, shape.p) {
+        return Verdict::Refused(3, 0);
+    }
+    if !is_between(1, MOST_ROWS, shape.g) {
+        return Verdict::Refused(4, 0);
+    }
+    Verdict::Accepted
+}
+
+// Whether a state keeps set-up's ranges and marks no row from G on.
+fn is_sound(state: State) -> bool
+    ensures { λ r. ⌜ r ≡ sound state ⌝ }
+{
+    let verdict = judge_shape(state.shape);
+    if let Verdict::Refused(_, _) = verdict {
+        return false;
+    }
+    bits::none_from(state.full, state.shape.g)
+}
+
+// The store's length.
+fn store_size(shape: Shape) -> usize
+    requires { ⌜ InRange shape ⌝ }
+    ensures { λ r. ⌜ r ≡ storeSize shape ⌝ }
+{
+    let group = simplex::group_of(shape.k);
+    shape.m * group.banks * shape.g * shape.p
+}
+
+// The length of a generation.
+fn generation_size(shape: Shape) -> usize
+    requires { ⌜ InRange shape ⌝ }
+    ensures { λ r. ⌜ r ≡ generationSize shape ⌝ }
+{
+    shape.m * shape.k * shape.p
+}
+
+// Where bank b of group x keeps row r.
+fn place_of(shape: Shape, x: usize, b: usize, r: usize) -> usize
+    requires { ⌜ InRange shape × CellOf shape x b r ⌝ }
+    ensures { λ at. ⌜ at ≡ offset shape x b r ⌝ }
+{
+    let group = simplex::group_of(shape.k);
+    ((x * group.banks + b - 1) * shape.g + r) * shape.p
+}
+
+// The refusal of a write: 5, 6, 7, 8, 10.
+fn judge_write(state: State, size: usize, row: usize, len: usize) -> Verdict
+    ensures { λ r. ⌜ r ≡ writeRefusal state size row len ⌝ }
+{
+    if !is_sound(state) {
+        return Verdict::Refused(5, 0);
+    }
+    if size != store_size(state.shape) {
+        return Verdict::Refused(6, 0);
+    }
+    if state.shape.g <= row {
+        return Verdict::Refused(7, 0);
+    }
+    if bits::is_marked(state.full, row) {
+        return Verdict::Refused(8, 0);
+    }
+    if len != generation_size(state.shape) {
+        return Verdict::Refused(10, 0);
+    }
+    Verdict::Accepted
+}
+
+// The refusal of a release: 5, 7, 9.
+fn judge_release(state: State, row: usize) -> Verdict
+    ensures { λ r. ⌜ r ≡ releaseRefusal state row ⌝ }
+{
+    if !is_sound(state) {
+        return Verdict::Refused(5, 0);
+    }
+    if state.shape.g <= row {
+        return Verdict::Refused(7, 0);
+    }
+    if !bits::is_marked(state.full, row) {
+        return Verdict::Refused(9, 0);
+    }
+    Verdict::Accepted
+}
+
+// Sets the cells of all banks of group x in a row, from the group's packets.
+fn write_group(store: &mut [u8], shape: Shape, x: usize, row: usize, packets: &[u8])
+    requires { ⌜ InRange shape × (x < shape .m) × (row < shape .g) ⌝ }
+    requires { ⌜ (length (now store) ≡ storeSize shape) × (length (now packets) ≡ shape .k * shape .p) ⌝ }
+    ensures { λ _. ⌜ now (store .exit) ≡ groupWritten shape x row (packetsOf (shape .p) (shape .k) (now (packets .entry))) (now (store .entry)) ⌝ }
+{
+    let at = place_of(shape, x, 1, row);
+    simplex::fill_group(store, at, shape.g * shape.p, packets, shape.p, shape.k)
+}
+
+// Sets the cells of all banks of all groups in a row, from a generation.
+fn write_row(store: &mut [u8], shape: Shape, row: usize, generation: &[u8])
+    requires { ⌜ InRange shape × (row < shape .g) ⌝ }
+    requires { ⌜ (length (now store) ≡ storeSize shape) × (length (now generation) ≡ generationSize shape) ⌝ }
+    ensures { λ _. ⌜ now (store .exit) ≡ rowWritten shape row (now (generation .entry)) (now (store .entry)) ⌝ }
+{
+    let groups = shape.m;
+    let len = shape.k * shape.p;
+    let mut x = 0;
+    let mut q = 0;
+    while x < groups {
+        write_group(store, shape, x, row, &generation[q..q + len]);
+        q += len;
+        x += 1;
+    }
+}
+
+impl State {
+    // Sets up a memory with every row empty, or refuses the shape: 1 to 4.
+    pub fn set_up(k: usize, m: usize, p: usize, g: usize) -> SetUp
+        ensures { λ r. ⌜ r ≡ setUpOf (record { k = k; m = m; p = p; g = g }) ⌝ }
+    {
+        let shape = Shape { k, m, p, g };
+        let verdict = judge_shape(shape);
+        if let Verdict::Refused(number, place) = verdict {
+            let none = Shape {
+                k: 0,
+                m: 0,
+                p: 0,
+                g: 0,
+            };
+            return SetUp {
+                state: State {
+                    shape: none,
+                    full: 0,
+                },
+                verdict: Verdict::Refused(number, place),
+            };
+        }
+        SetUp {
+            state: State { shape, full: 0 },
+            verdict: Verdict::Accepted,
+        }
+    }
+
+    // A row's mark turned: what an accepted write or release gives.
+    fn turn_row(self, row: usize) -> Outcome
+        requires { ⌜ (sound self ≡ true) × (row < self .shape .g) ⌝ }
+        ensures { λ r. ⌜ r ≡ outcomeBy self (rowTurned self row) Accepted ⌝ }
+    {
+        let shape = self.shape;
+        let full = bits::turn(self.full, row);
+        let rows = bits::count(full);
+        Outcome {
+            state: State { shape, full },
+            answer: Answer::FullRows(rows),
+        }
+    }
+
+    // Writes a generation, m·K packets, to an empty row, which it makes full; or refuses: 5, 6, 7, 8, 10.
+    pub fn write(self, store: &mut [u8], row: usize, generation: &[u8]) -> Outcome
+        ensures outcome { λ r. ⌜ r ≡ writeOutcome self (length (now (store .entry))) row (length (now (generation .entry))) ⌝ }
+        ensures store { λ _. ⌜ now (store .exit) ≡ writeStore self (now (store .entry)) row (now (generation .entry)) ⌝ }
+    {
+        let verdict = judge_write(self, store.len(), row, generation.len());
+        if let Verdict::Refused(number, place) = verdict {
+            return Outcome {
+                state: self,
+                answer: Answer::Refused(number, place),
+            };
+        }
+        write_row(store, self.shape, row, generation);
+        self.turn_row(row)
+    }
+
+    // Makes a full row empty; or refuses: 5, 7, 9. No byte of a store changes: it is given none.
+    pub fn release(self, row: usize) -> Outcome
+        ensures { λ r. ⌜ r ≡ releaseOutcome self row ⌝ }
+    {
+        let verdict = judge_release(self, row);
+        if let Verdict::Refused(number, place) = verdict {
+            return Outcome {
+                state: self,
+                answer: Answer::Refused(number, place),
+            };
+        }
+        self.turn_row(row)
+    }
+}
