@@ -8,7 +8,7 @@ use lib.ListN.{length}
 use lib.Pow.{pow-mono}
 use Rattle.simplex.specs.Filling.{Fillable}
 use Rattle.memory.specs.declared.Shape.{Shape}
-use Rattle.memory.specs.Shape.{InRange, banks, storeSize, offset}
+use Rattle.memory.specs.Shape.{InRange, banks, storeSize, CellOf, offset}
 use Rattle.memory.specs.Operations.{groupWritten, groupsWritten, packetsIn}
 use Rattle.memory.proofs.Places.{inside, offset-spaced}
 
@@ -21,11 +21,14 @@ fillable sh at x row e w group below packets s size whole = record {
   symbols = w .symbols;
   packets-size = size;
   step-size = rw (one-mul (sh .p)) at (mul-le-mul-right (sh .p) (w .rows .0));
-  last = rw (e, whole, ← offset-spaced sh x (banks sh) row some) (inside sh x (banks sh) row record { group = group; first = some; last = omega arith; row = below });
+  last = rw (e, whole, ← offset-spaced sh x (banks sh) row some) (inside sh x (banks sh) row last-bank);
 }
   where
     some : 1 ≤ banks sh
     some = omega (arith, some-banks sh w)
+
+    last-bank : CellOf sh x (banks sh) row
+    last-bank = record { group = group; first = some; last = omega arith; row = below }
 
 -- ---- a generation group by group
 

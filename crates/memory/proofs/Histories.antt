@@ -25,9 +25,9 @@ use Rattle.memory.specs.Operations.{answerBy, outcomeBy, packetsIn, rowW
 use Rattle.memory.specs.History.{Operation, write, release, History, Memory, outcomeOf, storeAfter, run}
 use Rattle.memory.specs.History.{verdictIn, fullBy, writtenBy, fullIn, lastWritten, filledBy, emptiedBy, inAll, Remembers, AfterAnyHistory}
 use Rattle.memory.proofs.Ranges.{words-sound, range-words}
-use Rattle.memory.proofs.Writing.{row-written, other-rows}
-use Rattle.memory.proofs.Turning.{turned-sound, row-filled, row-emptied}
 use Rattle.memory.proofs.Accepted.{Writable, Releasable, written-facts, released-facts}
+use Rattle.memory.proofs.Turning.{turned-sound, row-filled, row-emptied}
+use Rattle.memory.proofs.Writing.{row-written, other-rows}
 
 -- ---- what every operation keeps
 

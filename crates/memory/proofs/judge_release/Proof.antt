@@ -1,11 +1,11 @@
 -- `memory::judge_release` meets its contract: each test in its order.
-use mathlib.Core.Bool.{true}
 use mathlib.Core.Path.{_≡_, sym, _∙_}
+use mathlib.Core.Bool.{true}
 use native.Mathlib.Omega.{arith}
 use borrow.Author.Needs.{needs}
 use borrow.Author.Tests.{not-true, not-false, lt-ltb, le-ltb}
-use Rattle.memory.specs.Operations.{releaseRefusal}
 use Rattle.memory.specs.State.{sound}
+use Rattle.memory.specs.Operations.{releaseRefusal}
 use Rattle.memory.proofs.Ranges.{sound-words}
 use Rattle.memory.proofs.judge_release.Statement.{statement}
 use Rattle.memory.proofs.judge_release.Tie as tie

@@ -1,6 +1,6 @@
 -- `memory::judge_shape` meets its contract: each test in its order.
-use mathlib.Core.Bool.{true}
 use mathlib.Core.Path.{_≡_, sym, _∙_}
+use mathlib.Core.Bool.{true}
 use borrow.Author.Needs.{needs}
 use borrow.Author.Tests.{not-true, not-false}
 use Rattle.simplex.specs.Shape.{leastSymbols, mostSymbols}

@@ -1,15 +1,14 @@
 -- `memory::judge_write` meets its contract: each test in its order.
-
-use mathlib.Core.Bool.{true}
 use mathlib.Core.Path.{_≡_, sym, _∙_}
+use mathlib.Core.Bool.{true}
 use native.Mathlib.Omega.{arith}
 use borrow.Author.Needs.{needs}
 use borrow.Author.Tests.{not-true, not-false, lt-ltb, le-ltb, eq-eqb, ne-eqb}
-use Rattle.memory.specs.Operations.{writeRefusal}
-use Rattle.memory.specs.Shape.{storeSize, generationSize}
 use lib.Dec.{eqb}
 use Rattle.refusals.specs.Verdict.{check}
+use Rattle.memory.specs.Shape.{storeSize, generationSize}
 use Rattle.memory.specs.State.{sound}
+use Rattle.memory.specs.Operations.{writeRefusal}
 use Rattle.memory.proofs.Ranges.{sound-words}
 use Rattle.memory.proofs.judge_write.Statement.{statement}
 use Rattle.memory.proofs.judge_write.Tie as tie

@@ -4,14 +4,16 @@ use native.Mathlib.Omega.{arith}
 use borrow.Author.Needs.{needs}
 use denote.Ref.{now}
 use Rattle.memory.specs.Shape.{banks}
-use Rattle.memory.proofs.Groups.{some-banks, fillable}
 use Rattle.memory.proofs.Ranges.{row-bytes}
 use Rattle.memory.proofs.Writing.{group-spaced}
+use Rattle.memory.proofs.Groups.{some-banks, fillable}
 use Rattle.memory.proofs.write_group.Statement.{statement}
 use Rattle.memory.proofs.write_group.Tie as tie
 
 place-of-requires : tie.Need-place-of-requires
-place-of-requires c κs = let p = c .before .before .pre in (p .0 .0, record { group = p .0 .1; first = omega arith; last = omega (arith, some-banks _ (p .0 .0)); row = omega (arith, p .0 .2) })
+place-of-requires c κs =
+    let p = c .before .before .pre in
+    (p .0 .0, record { group = p .0 .1; first = omega arith; last = omega (arith, some-banks _ (p .0 .0)); row = omega (arith, p .0 .2) })
 
 mul-fill-group : tie.Need-mul-fill-group
 mul-fill-group c = omega (arith, row-bytes _ (c .before .before .before .before .before .pre .0 .0))

@@ -1,6 +1,6 @@
 -- `memory::write_row` meets its contract: after x groups, the cells of the first x groups are put.
-use mathlib.Core.List.{List}
 use mathlib.Core.Path.{_≡_, refl, sym, ap, _∙_}
+use mathlib.Core.List.{List}
 use Prim.Native.Nat.{ℕ, _+_, _-_, _*_, _≤_, _<_}
 use native.Mathlib.Nat.{zero-mul}
 use native.Mathlib.Omega.{arith}
@@ -11,9 +11,9 @@ use Rattle.cells.proofs.Steps.{step-more}
 use Rattle.cells.specs.Cell.{cell}
 use Rattle.simplex.specs.Filling.{packetsOf}
 use Rattle.memory.specs.Operations.{groupWritten, groupsWritten}
-use Rattle.memory.proofs.Groups.{none-written, one-written}
-use Rattle.memory.proofs.Writing.{group-within}
 use Rattle.memory.proofs.Ranges.{group-bytes}
+use Rattle.memory.proofs.Writing.{group-within}
+use Rattle.memory.proofs.Groups.{none-written, one-written}
 use Rattle.memory.proofs.write_row.Statement.{statement}
 use Rattle.memory.proofs.write_row.Tie as tie
 
