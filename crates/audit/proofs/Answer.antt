@@ -10,7 +10,7 @@ use lib.Dec.{eqb}
 use lib.ListN.{length, getD}
 use Rattle.refusals.specs.declared.Verdict.{Verdict}
 use Rattle.refusals.specs.declared.Verdict.the-variants.{Accepted, Refused}
-use Rattle.refusals.proofs.Verdicts.{first-accepted, next-accepted, check-passed, both}
+use Rattle.refusals.proofs.Verdicts.{checks, both}
 use Rattle.simplex.specs.Shape.{leastSymbols, mostSymbols, SymbolsInRange, limitOf}
 use Rattle.simplex.specs.Limit.{total}
 use Rattle.audit.specs.declared.Rest.{Rest}
@@ -32,10 +32,10 @@ right t u e = both t u .0 e .1
 
 module _ (K : ℕ) (counts : List ℕ) (e : countsRefusal K counts ≡ Accepted) where
   pub in-range : SymbolsInRange K
-  in-range = search (first-accepted, next-accepted, check-passed, left, right, leb-true)
+  in-range = search (checks, left, right, leb-true)
 
   pub beyond-zero : (i : ℕ) → K ≤ i → getD counts i 0 ≡ 0
-  beyond-zero = all-zero K counts (search (first-accepted, next-accepted, check-passed))
+  beyond-zero = all-zero K counts (search checks)
 
 module _ (K : ℕ) (counts bytes : List ℕ) where
   pub refused : (number place : ℕ) → countsRefusal K counts ≡ Refused number place → NotAudited number place ≡ auditOf K counts bytes

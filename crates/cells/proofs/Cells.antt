@@ -7,7 +7,7 @@ use native.Mathlib.Nat.{not-suc-le-zero, le-of-suc-le-suc, suc-add, zero-add}
 use native.Mathlib.Omega.{arith}
 use lib.ListN.{length, getD, take, drop, length-drop}
 use lib.Seq.{getD-take, getD-drop, ext-getD, length-take-le, take-take, drop-drop}
-use Rattle.cells.specs.Cell.{cell, put}
+use Rattle.cells.specs.Cell.{cell, put, Outside}
 
 pub length-put : (s : List ℕ) (at : ℕ) (c : List ℕ) → length (put s at c) ≡ length s
 unfolding put
@@ -39,7 +39,7 @@ past (x ∷ s) zero (y ∷ c) zero h = absurd (not-suc-le-zero (rw (zero-add (su
 past (x ∷ s) zero (y ∷ c) (suc j) h = past s zero c j (rw (zero-add (length c)) (le-of-suc-le-suc (rw (zero-add (suc (length c))) at h)))
 
 -- a byte outside the part that was put is as it was
-pub getD-put-out : (s : List ℕ) (at : ℕ) (c : List ℕ) (j : ℕ) → (j < at) ⊎ (at + length c ≤ j) → getD (put s at c) j 0 ≡ getD s j 0
+pub getD-put-out : (s : List ℕ) (at : ℕ) (c : List ℕ) (j : ℕ) → Outside (length c) at j → getD (put s at c) j 0 ≡ getD s j 0
 getD-put-out s at c j out = ⊎-elim (below s at c j) (past s at c j) out
 
 pub getD-put-in : (s : List ℕ) (at : ℕ) (c : List ℕ) (j : ℕ) → j < length c → at + j < length s → getD (put s at c) (at + j) 0 ≡ getD c j 0

@@ -1,6 +1,7 @@
 -- Cells. A store is a list of bytes; a cell is what lies at a place of it.
+use mathlib.Core.Logic.{_⊎_}
 use mathlib.Core.List.{List, [], _∷_}
-use Prim.Native.Nat.{ℕ, zero, suc}
+use Prim.Native.Nat.{ℕ, zero, suc, _+_, _≤_, _<_}
 use lib.ListN.{take, drop}
 
 -- The cell at index at of the store s: p bytes, or fewer where the store ends.
@@ -13,3 +14,11 @@ put [] at c = []
 put (x ∷ s) (suc at) c = x ∷ put s at c
 put (x ∷ s) zero [] = x ∷ s
 put (x ∷ s) zero (y ∷ c) = y ∷ put s zero c
+
+-- Byte i lies outside the cell of p bytes at index at.
+abbrev pub Outside : (p at i : ℕ) → Type 0
+Outside p at i = (i < at) ⊎ (at + p ≤ i)
+
+-- The cells of p bytes at two indices have no byte in common.
+abbrev pub Apart : (p at other : ℕ) → Type 0
+Apart p at other = (at + p ≤ other) ⊎ (other + p ≤ at)

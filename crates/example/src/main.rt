@@ -1,5 +1,5 @@
-// A memory of one group and two rows: four packets written to a row, spread over fifteen banks, and eight reads of them in one cycle, two of each
-// packet, every bank opened once.
+// A memory of one group and two rows: four packets written to a row, spread over fifteen banks, and eight reads of them, two of each packet, every
+// bank opened once.
 ghost use mathlib.Core.Path.{_≡_};
 ghost use Prim.Native.Nat.{_+_, _*_, _≤_};
 ghost use lib.ListN.{length};

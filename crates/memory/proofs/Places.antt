@@ -1,33 +1,13 @@
 -- Where cells lie: within the store, and no two on one byte. A cell's place is p times a number with three digits: its group, its bank, its row.
-use mathlib.Core.Path.{_≡_, refl, sym, ap, _∙_}
-use mathlib.Core.Logic.{_≢_, inl, inr}
-use mathlib.Core.Bool.{Bool, true, false}
-use Prim.Native.Nat.{ℕ, _+_, _-_, _*_, _/_, _%_, _≤_, _<_}
+use mathlib.Core.Path.{_≡_}
+use Prim.Native.Nat.{ℕ, _+_, _-_, _*_, _≤_, _<_}
 use native.Mathlib.Omega.{arith}
-use borrow.Author.Tests.{ltb-true, ltb-false}
-use lib.Arith.{digits-lt, digits-div, digits-mod}
-use lib.Dec.{ltb}
-use Rattle.cells.proofs.Steps.{step-within}
+use lib.Arith.{digits-lt}
+use Rattle.cells.specs.Cell.{Apart}
+use Rattle.cells.proofs.Steps.{step-within, digits-same, multiples-apart}
 use Rattle.simplex.specs.Filling.{spaced, Room}
 use Rattle.memory.specs.declared.Shape.{Shape}
 use Rattle.memory.specs.Shape.{banks, storeSize, CellOf, offset}
-use Rattle.memory.specs.Laws.{Apart}
-
--- ---- plain numbers
-
-digits-same : (m : ℕ) {q r u t : ℕ} → r < m → t < m → q * m + r ≡ u * m + t → (q ≡ u) × (r ≡ t)
-digits-same m {q} {r} {u} {t} h k e =
-    (sym (digits-div q h) ∙ ap (λ (n : ℕ). n / m) e ∙ digits-div u k, sym (digits-mod q h) ∙ ap (λ (n : ℕ). n % m) e ∙ digits-mod u k)
-
--- different multiples of p are p apart
-multiples-apart : (p i j : ℕ) → i ≢ j → Apart p (i * p) (j * p)
-multiples-apart p i j ne = go (ltb i j) refl
-  where
-    go : (t : Bool) → ltb i j ≡ t → Apart p (i * p) (j * p)
-    go true e = inl (step-within i j p (ltb-true i j e))
-    go false e = let l : j ≤ i = ltb-false i j e in inr (step-within j i p (omega arith))
-
--- ---- cells
 
 pub inside : (sh : Shape) (x b r : ℕ) → CellOf sh x b r → offset sh x b r + sh .p ≤ storeSize sh
 unfolding offset storeSize

@@ -11,14 +11,12 @@ use Rattle.bits.specs.Marks.{noneFrom}
 use Rattle.bits.proofs.Marks.{none-marked, marked-none}
 use Rattle.refusals.specs.declared.Verdict.the-variants.{Accepted}
 use Rattle.refusals.specs.Verdict.{passed}
-use Rattle.refusals.proofs.Verdicts.{first-accepted, next-accepted, check-passed, passed-accepted, both}
-use Rattle.simplex.specs.Shape.{leastSymbols, mostSymbols}
+use Rattle.refusals.proofs.Verdicts.{checks, passed-accepted, both}
+use Rattle.simplex.specs.Shape.{leastSymbols, mostSymbols, banksOf}
 use Rattle.memory.specs.declared.Shape.{Shape}
 use Rattle.memory.specs.declared.State.{State}
 use Rattle.memory.specs.Shape.{mostGroups, mostBytes, mostRows, between, shapeRefusal, InRange, banks}
 use Rattle.memory.specs.State.{sound, Sound}
-
-ruleset checks = (first-accepted, next-accepted, check-passed)
 
 between-words : (low high n : ℕ) → between low high n ≡ true → (low ≤ n) × (n ≤ high)
 between-words low high n e = let t = both (leb low n) (leb n high) .0 e in (leb-true low n (t .0), leb-true n high (t .1))
@@ -66,7 +64,7 @@ sound-words st e =
 
 -- ---- sizes: no product of the numbers of a shape in range is large
 
-pub few-banks : (sh : Shape) → InRange sh → banks sh ≤ 31
+pub few-banks : (sh : Shape) → InRange sh → banks sh ≤ banksOf mostSymbols
 few-banks sh w = let l : 2 ^ sh .k ≤ 2 ^ mostSymbols = pow-mono (w .symbols .most) in omega arith
 
 pub row-bytes : (sh : Shape) → InRange sh → sh .g * sh .p ≤ mostRows * mostBytes
@@ -79,5 +77,5 @@ group-bytes sh w = mul-le-mul (w .symbols .most) (w .bytes .1)
 pub scaled : (sh : Shape) → InRange sh → (n most : ℕ) → n ≤ most → (n * sh .g ≤ most * mostRows) × (n * sh .p ≤ most * mostBytes)
 scaled sh w n most l = (mul-le-mul l (w .rows .1), mul-le-mul l (w .bytes .1))
 
-pub all-banks : (sh : Shape) (x : ℕ) → InRange sh → x ≤ mostGroups → x * banks sh ≤ mostGroups * 31
+pub all-banks : (sh : Shape) (x : ℕ) → InRange sh → x ≤ mostGroups → x * banks sh ≤ mostGroups * banksOf mostSymbols
 all-banks sh x w l = mul-le-mul l (few-banks sh w)

@@ -15,7 +15,7 @@ use Rattle.simplex.proofs.Filling.{packet-at, packets-sized, length-filled, fil
 use Rattle.memory.specs.declared.Shape.{Shape}
 use Rattle.memory.specs.Shape.{banks, storeSize, generationSize, CellOf, offset, cellAt}
 use Rattle.memory.specs.Operations.{packetsIn, groupWritten, groupsWritten, rowWritten}
-use Rattle.memory.specs.Laws.{Outside, Written}
+use Rattle.memory.specs.Laws.{OutsideRow, Written}
 use Rattle.memory.proofs.Places.{inside, apart, offset-spaced, room}
 
 -- ---- the packets of a group
@@ -50,7 +50,7 @@ group-spaced sh x row packets s =
     filled-same (sh .p) packets (λ b. offset sh x b row) (spaced (offset sh x 1 row) (sh .g * sh .p)) (banks sh) s
     (λ b l u. offset-spaced sh x b row l)
 
-pub length-groups : (sh : Shape) (row : ℕ) (generation : List ℕ) (n : ℕ) (s : List ℕ) → length (groupsWritten sh row generation n s) ≡ length s
+length-groups : (sh : Shape) (row : ℕ) (generation : List ℕ) (n : ℕ) (s : List ℕ) → length (groupsWritten sh row generation n s) ≡ length s
 unfolding groupsWritten
 length-groups sh row generation zero s = refl
 length-groups sh row generation (suc x) s =
@@ -92,7 +92,7 @@ module _ (sh : Shape) (row : ℕ) (generation s : List ℕ) where
         (λ (m : x < n). group-keeps n h x b row c (λ e. omega arith) ∙ groups-hold n (omega arith) x b m c)
         (eq-or-lt-of-le (le-of-suc-le-suc l))
 
-    groups-others : (n : ℕ) → n ≤ sh .m → (i : ℕ) → Outside sh row i → getD (after n) i 0 ≡ getD s i 0
+    groups-others : (n : ℕ) → n ≤ sh .m → (i : ℕ) → OutsideRow sh row i → getD (after n) i 0 ≡ getD s i 0
     unfolding groupsWritten
     groups-others zero h i out = refl
     groups-others (suc n) h i out =

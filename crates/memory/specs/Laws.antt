@@ -1,12 +1,12 @@
 -- The laws of a memory, for any shape, state, store and generation.
 use mathlib.Core.Path.{_≡_}
-use mathlib.Core.Logic.{_⊎_, _≢_, _↔_}
+use mathlib.Core.Logic.{_≢_, _↔_}
 use mathlib.Core.Bool.{true, false}
 use mathlib.Core.List.{List, []}
 use Prim.Native.Nat.{ℕ, suc, _+_, _*_, _≤_, _<_}
 use lib.ListN.{length, getD}
 use Rattle.refusals.specs.declared.Verdict.the-variants.{Accepted, Refused}
-use Rattle.cells.specs.Cell.{cell}
+use Rattle.cells.specs.Cell.{cell, Outside, Apart}
 use Rattle.simplex.specs.Code.{bankCell}
 use Rattle.memory.specs.declared.Shape.{Shape}
 use Rattle.memory.specs.declared.State.{State}
@@ -15,20 +15,16 @@ use Rattle.memory.specs.State.{isFull, fullRows, sound, Sound}
 use Rattle.memory.specs.Operations.{packetsIn, writeRefusal, writeOutcome, writeStore, releaseRefusal, releaseOutcome}
 use Rattle.memory.specs.History.{AfterAnyHistory}
 
--- Cells of p bytes at two places have no byte in common.
-abbrev pub Apart : (p at other : ℕ) → Type 0
-Apart p at other = (at + p ≤ other) ⊎ (other + p ≤ at)
-
 -- The byte i of the store lies in no cell of this row.
-abbrev pub Outside : Shape → (row i : ℕ) → Type 0
-Outside sh row i = (x b : ℕ) → CellOf sh x b row → (i < offset sh x b row) ⊎ (offset sh x b row + sh .p ≤ i)
+abbrev pub OutsideRow : Shape → (row i : ℕ) → Type 0
+OutsideRow sh row i = (x b : ℕ) → CellOf sh x b row → Outside (sh .p) (offset sh x b row) i
 
 -- Of a store s and the store after a generation was written to a row: each cell of the row, in all groups, is what the code puts there for the
 -- generation's packets, and every other byte is as it was.
 pub record Written (sh : Shape) (row : ℕ) (generation s after : List ℕ) : Type 0 where
   pub size : length after ≡ length s
   pub cells : (x b : ℕ) → CellOf sh x b row → cellAt sh after x b row ≡ bankCell (sh .p) (packetsIn sh generation x) b
-  pub others : (i : ℕ) → Outside sh row i → getD after i 0 ≡ getD s i 0
+  pub others : (i : ℕ) → OutsideRow sh row i → getD after i 0 ≡ getD s i 0
 
 -- The row is empty in the one state and full in the other, and all else is the same: so the other has one full row more.
 pub record OneMore (row : ℕ) (fewer more : State) : Type 0 where

@@ -23,6 +23,9 @@ pub check-passed : (number place : ℕ) (test : Bool) → check number place tes
 check-passed number place true e = refl
 check-passed number place false e = not-accepted number place e
 
+-- what every check of an accepted verdict tells
+pub ruleset checks = (first-accepted, next-accepted, check-passed)
+
 pub passed-accepted : (v : Verdict) → passed v ≡ true → v ≡ Accepted
 passed-accepted Accepted e = refl
 passed-accepted (Refused number place) e = absurd (false≢true e)

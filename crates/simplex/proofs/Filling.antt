@@ -1,13 +1,13 @@
 -- Laws of a group's banks in a store: each bank's cell holds what the code says, and every other byte is as it was.
 use mathlib.Core.Path.{_≡_, refl, sym, ap, _∙_}
-use mathlib.Core.Logic.{_⊎_, inl, ⊎-elim}
+use mathlib.Core.Logic.{inl, ⊎-elim}
 use mathlib.Core.List.{List, []}
 use Prim.Native.Nat.{ℕ, zero, suc, _+_, _-_, _*_, _≤_, _<_}
 use native.Mathlib.Nat.{eq-or-lt-of-le, le-of-suc-le-suc, mul-le-mul-right, add-mul, suc-mul, zero-mul, not-suc-le-zero}
 use native.Mathlib.Omega.{arith}
 use lib.ListN.{length, getD, take, drop, length-drop}
 use lib.Seq.{length-take-le, drop-drop}
-use Rattle.cells.specs.Cell.{cell}
+use Rattle.cells.specs.Cell.{cell, Outside, Apart}
 use Rattle.cells.proofs.Cells.{length-put, cell-put, cell-put-out, getD-put-out}
 use Rattle.simplex.specs.Shape.{banksOf}
 use Rattle.simplex.specs.Code.{Packet, Sized, bankCell}
@@ -77,7 +77,7 @@ module _ (P : ℕ) (packets : List Packet) (place : ℕ → ℕ) where
         (eq-or-lt-of-le u)
 
     -- a cell apart from all of them is as it was
-    pub filled-apart : (n : ℕ) (s : List ℕ) (at : ℕ) → ((b : ℕ) → 1 ≤ b → b ≤ n → (at + P ≤ place b) ⊎ (place b + P ≤ at)) → at + P ≤ length s
+    pub filled-apart : (n : ℕ) (s : List ℕ) (at : ℕ) → ((b : ℕ) → 1 ≤ b → b ≤ n → Apart P at (place b)) → at + P ≤ length s
         → cell (filled P packets place n s) at P ≡ cell s at P
     unfolding filled
     filled-apart zero s at out fits = refl
@@ -86,7 +86,7 @@ module _ (P : ℕ) (packets : List Packet) (place : ℕ → ℕ) where
         (rw (length-bank P packets (suc n) h) (out (suc n) (omega arith) (omega arith))) (rw (length-filled n s) fits)
         ∙ filled-apart n s at (λ b l u. out b l (omega arith)) fits
 
-    filled-other : (n : ℕ) (s : List ℕ) (x : ℕ) → ((b : ℕ) → 1 ≤ b → b ≤ n → (x < place b) ⊎ (place b + P ≤ x))
+    filled-other : (n : ℕ) (s : List ℕ) (x : ℕ) → ((b : ℕ) → 1 ≤ b → b ≤ n → Outside P (place b) x)
         → getD (filled P packets place n s) x 0 ≡ getD s x 0
     unfolding filled
     filled-other zero s x out = refl

@@ -3,6 +3,7 @@ use mathlib.Core.Path.{_≡_, ap}
 use Prim.Native.Nat.{ℕ, _+_, _-_, _*_, _≤_}
 use native.Mathlib.Omega.{arith}
 use borrow.Author.Needs.{needs}
+use Rattle.simplex.specs.Shape.{mostSymbols, banksOf}
 use Rattle.simplex.specs.declared.Group.{Group}
 use Rattle.memory.specs.Shape.{mostGroups, mostRows, banks, offset}
 use Rattle.memory.proofs.Ranges.{few-banks, all-banks, scaled}
@@ -12,7 +13,7 @@ use Rattle.memory.proofs.place_of.Tie as tie
 banks-are : (c : tie.After-group-of) → c .group-of .result .banks ≡ banks (c .before .args .shape)
 banks-are c = ap (λ (g : Group). g .banks) (c .group-of .ensures)
 
-few : (c : tie.After-group-of) → c .before .args .x * c .group-of .result .banks + c .before .args .b ≤ mostGroups * 31 + 31
+few : (c : tie.After-group-of) → c .before .args .x * c .group-of .result .banks + c .before .args .b ≤ mostGroups * banksOf mostSymbols + banksOf mostSymbols
 few c =
     let w = c .before .pre in
     let sh = c .before .args .shape in
@@ -22,10 +23,10 @@ few c =
 abbrev Before : tie.After-group-of → ℕ
 Before c = c .before .args .x * c .group-of .result .banks + c .before .args .b - 1
 
-rows : (c : tie.After-group-of) → Before c * c .before .args .shape .g ≤ (mostGroups * 31 + 31) * mostRows
-rows c = let l : Before c ≤ mostGroups * 31 + 31 = omega (arith, few c) in scaled _ (c .before .pre .0) _ _ l .0
+rows : (c : tie.After-group-of) → Before c * c .before .args .shape .g ≤ (mostGroups * banksOf mostSymbols + banksOf mostSymbols) * mostRows
+rows c = let l : Before c ≤ mostGroups * banksOf mostSymbols + banksOf mostSymbols = omega (arith, few c) in scaled _ (c .before .pre .0) _ _ l .0
 
-cells : (c : tie.After-group-of) → Before c * c .before .args .shape .g + c .before .args .r ≤ (mostGroups * 31 + 31) * mostRows + mostRows
+cells : (c : tie.After-group-of) → Before c * c .before .args .shape .g + c .before .args .r ≤ (mostGroups * banksOf mostSymbols + banksOf mostSymbols) * mostRows + mostRows
 cells c = omega (arith, rows c, c .before .pre .1 .row, c .before .pre .0 .rows .1)
 
 group-of-requires : tie.Need-group-of-requires

@@ -2,6 +2,7 @@
 use mathlib.Core.Path.{_≡_, ap}
 use Prim.Native.Nat.{_*_, _≤_}
 use native.Mathlib.Omega.{arith}
+use Rattle.simplex.specs.Shape.{mostSymbols, banksOf}
 use Rattle.simplex.specs.declared.Group.{Group}
 use Rattle.memory.specs.Shape.{mostGroups, banks, storeSize}
 use Rattle.memory.proofs.Ranges.{all-banks, scaled}
@@ -11,7 +12,7 @@ use Rattle.memory.proofs.store_size.Tie as tie
 banks-are : (c : tie.After-group-of) → c .group-of .result .banks ≡ banks (c .before .args .shape)
 banks-are c = ap (λ (g : Group). g .banks) (c .group-of .ensures)
 
-many : (c : tie.After-group-of) → c .before .args .shape .m * c .group-of .result .banks ≤ mostGroups * 31
+many : (c : tie.After-group-of) → c .before .args .shape .m * c .group-of .result .banks ≤ mostGroups * banksOf mostSymbols
 many c = rw (banks-are c) (all-banks (c .before .args .shape) (c .before .args .shape .m) (c .before .pre) (c .before .pre .groups .1))
 
 group-of-requires : tie.Need-group-of-requires
