@@ -5,12 +5,13 @@ use mathlib.Core.Bool.{Bool, true, false, _&&_, and-false, false≢true}
 use mathlib.Core.List.{List, [], _∷_}
 use Prim.Native.Nat.{ℕ, _+_, _/_, _%_, _≤_, _<_}
 use native.Mathlib.Omega.{arith}
-use borrow.Author.Tests.{le-leb, leb-true, leb-false, eq-eqb, ne-eqb, eqb-true}
+use borrow.Author.Tests.{leb-true, leb-false, eq-eqb, ne-eqb, eqb-true}
 use lib.Dec.{eqb}
 use lib.ListN.{length, getD}
 use Rattle.refusals.specs.declared.Verdict.{Verdict}
 use Rattle.refusals.specs.declared.Verdict.the-variants.{Accepted, Refused}
-use Rattle.refusals.proofs.Verdicts.{checks, both}
+use Rattle.refusals.specs.Verdict.{between}
+use Rattle.refusals.proofs.Verdicts.{checks, both, between-words, words-between}
 use Rattle.simplex.specs.Shape.{leastSymbols, mostSymbols, SymbolsInRange, limitOf}
 use Rattle.simplex.specs.Limit.{total}
 use Rattle.audit.specs.declared.Rest.{Rest}
@@ -32,7 +33,10 @@ right t u e = both t u .0 e .1
 
 module _ (K : ℕ) (counts : List ℕ) (e : countsRefusal K counts ≡ Accepted) where
   pub in-range : SymbolsInRange K
-  in-range = search (checks, left, right, leb-true)
+  in-range =
+      let k : between leastSymbols mostSymbols K ≡ true = search checks in
+      let w = between-words leastSymbols mostSymbols K k in
+      record { least = w .0; most = w .1 }
 
   pub beyond-zero : (i : ℕ) → K ≤ i → getD counts i 0 ≡ 0
   beyond-zero = all-zero K counts (search checks)
@@ -82,7 +86,7 @@ module _ (K : ℕ) (counts : List ℕ) where
   request n e = record { symbols = in-range K counts e; size = n; beyond = beyond-zero K counts e }
 
   pub accepted : RequestOf K counts → countsRefusal K counts ≡ Accepted
-  accepted r = rw (le-leb leastSymbols K (r .symbols .least), le-leb K mostSymbols (r .symbols .most), zero-all K counts (r .beyond))
+  accepted r = rw (words-between leastSymbols mostSymbols K (r .symbols .least, r .symbols .most), zero-all K counts (r .beyond))
 
   module _ (bytes : List ℕ) where
     tests : auditOf K counts bytes ≡ Yes → (countsRefusal K counts ≡ Accepted) × (length bytes % 2 ≡ 0) × (isPlan K counts (pairsOf bytes) ≡ true)

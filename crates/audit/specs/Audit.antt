@@ -7,7 +7,7 @@ use lib.Dec.{leb, eqb}
 use lib.ListN.{length, getD, drop}
 use Rattle.refusals.specs.declared.Verdict.{Verdict}
 use Rattle.refusals.specs.declared.Verdict.the-variants.{Accepted, Refused}
-use Rattle.refusals.specs.Verdict.{check, _then_}
+use Rattle.refusals.specs.Verdict.{between, check, _then_}
 use Rattle.simplex.specs.Shape.{leastSymbols, mostSymbols, SymbolsInRange}
 use Rattle.simplex.specs.Limit.{total}
 use Rattle.audit.specs.Plan.{Pair, isPlan, IsPlan}
@@ -22,7 +22,7 @@ allZero (c ∷ counts) = eqb c 0 && allZero counts
 
 -- The refusals of a request vector: 1, K is out of its range; 11, a count for a symbol from K on is not 0.
 abbrev pub countsRefusal : ℕ → List ℕ → Verdict
-countsRefusal K counts = check 1 0 (leb leastSymbols K && leb K mostSymbols) then check 11 0 (allZero (drop K counts))
+countsRefusal K counts = check 1 0 (between leastSymbols mostSymbols K) then check 11 0 (allZero (drop K counts))
 
 -- A request vector of a group of K symbols, in words: five counts, those from K on being 0.
 pub record RequestOf (K : ℕ) (counts : List ℕ) : Type 0 where

@@ -34,7 +34,7 @@ pub fn the_plans()
 pub fn judge_counts(k: usize, counts: [usize; MOST_SYMBOLS]) -> Verdict
     ensures { λ r. ⌜ r ≡ countsRefusal k counts ⌝ }
 {
-    if k < LEAST_SYMBOLS || MOST_SYMBOLS < k {
+    if !refusals::is_between(LEAST_SYMBOLS, MOST_SYMBOLS, k) {
         return Verdict::Refused(1, 0);
     }
     let mut i = k;

@@ -4,7 +4,7 @@ ghost use Prim.Native.Nat.{_≤_, _<_};
 ghost use Rattle.bits.specs.Marks.{marked, turned, noneFrom, howMany, TheMarks};
 
 // How many numbers a word has marks for.
-pub const MARKS: usize = 64;
+const MARKS: usize = 64;
 
 // Carries the laws of marks. It does nothing.
 pub fn the_marks()

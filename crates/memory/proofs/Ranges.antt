@@ -4,25 +4,17 @@ use mathlib.Core.Bool.{true}
 use Prim.Native.Nat.{ℕ, _-_, _*_, _^_, _≤_}
 use native.Mathlib.Nat.{mul-le-mul}
 use native.Mathlib.Omega.{arith}
-use borrow.Author.Tests.{le-leb, leb-true}
-use lib.Dec.{leb}
 use lib.Pow.{pow-mono}
 use Rattle.bits.specs.Marks.{noneFrom}
 use Rattle.bits.proofs.Marks.{none-marked, marked-none}
 use Rattle.refusals.specs.declared.Verdict.the-variants.{Accepted}
-use Rattle.refusals.specs.Verdict.{passed}
-use Rattle.refusals.proofs.Verdicts.{checks, passed-accepted, both}
+use Rattle.refusals.specs.Verdict.{between, passed}
+use Rattle.refusals.proofs.Verdicts.{checks, passed-accepted, both, between-words, words-between}
 use Rattle.simplex.specs.Shape.{leastSymbols, mostSymbols, banksOf}
 use Rattle.memory.specs.declared.Shape.{Shape}
 use Rattle.memory.specs.declared.State.{State}
-use Rattle.memory.specs.Shape.{mostGroups, mostBytes, mostRows, between, shapeRefusal, InRange, banks}
+use Rattle.memory.specs.Shape.{mostGroups, mostBytes, mostRows, shapeRefusal, InRange, banks}
 use Rattle.memory.specs.State.{sound, Sound}
-
-between-words : (low high n : ℕ) → between low high n ≡ true → (low ≤ n) × (n ≤ high)
-between-words low high n e = let t = both (leb low n) (leb n high) .0 e in (leb-true low n (t .0), leb-true n high (t .1))
-
-words-between : (low high n : ℕ) → (low ≤ n) × (n ≤ high) → between low high n ≡ true
-words-between low high n w = rw (le-leb low n (w .0), le-leb n high (w .1))
 
 -- ---- the ranges of a shape
 

@@ -75,7 +75,7 @@ lastWritten sh [] = λ r. []
 lastWritten sh (operation ∷ history) =
     ifRefused (lastWritten sh history) (writtenBy operation (lastWritten sh history)) (verdictIn sh (fullIn sh history) operation)
 
--- How many rows accepted operations made full, or made empty.
+-- How many rows an accepted operation makes full, and how many it makes empty.
 abbrev pub filledBy : Operation → ℕ
 filledBy (write row generation) = 1
 filledBy (release row) = 0
@@ -84,6 +84,7 @@ abbrev pub emptiedBy : Operation → ℕ
 emptiedBy (write row generation) = 0
 emptiedBy (release row) = 1
 
+-- How many all accepted operations of a history did.
 abbrev pub inAll : (Operation → ℕ) → Shape → History → ℕ
 inAll rows sh [] = 0
 inAll rows sh (operation ∷ history) = ifRefused 0 (rows operation) (verdictIn sh (fullIn sh history) operation) + inAll rows sh history

@@ -1,10 +1,8 @@
 -- The shape of a memory: its ranges, its sizes, and where each cell lies.
-use mathlib.Core.Bool.{Bool, _&&_}
 use mathlib.Core.List.{List}
 use Prim.Native.Nat.{ℕ, _+_, _-_, _*_, _≤_, _<_}
-use lib.Dec.{leb}
 use Rattle.refusals.specs.declared.Verdict.{Verdict}
-use Rattle.refusals.specs.Verdict.{check, _then_}
+use Rattle.refusals.specs.Verdict.{between, check, _then_}
 use Rattle.cells.specs.Cell.{cell}
 use Rattle.simplex.specs.Shape.{leastSymbols, mostSymbols, SymbolsInRange, banksOf}
 use Rattle.simplex.specs.Code.{Packet}
@@ -19,10 +17,6 @@ mostBytes = 2048
 
 abbrev pub mostRows : ℕ
 mostRows = 64
-
--- Whether n is from low to high.
-abbrev pub between : (low high n : ℕ) → Bool
-between low high n = leb low n && leb n high
 
 -- Set-up's refusals. 1, K outside 2 to 5. 2, m outside 1 to 8. 3, P outside 1 to 2,048. 4, G outside 1 to 64.
 unfoldable pub shapeRefusal : Shape → Verdict

@@ -5,7 +5,7 @@ ghost use Prim.Native.Nat.{_*_, _<_};
 ghost use lib.ListN.{length};
 ghost use Rattle.refusals.specs.declared.Verdict.the-variants.{Accepted};
 ghost use Rattle.simplex.specs.Filling.{packetsOf};
-ghost use Rattle.memory.specs.Shape.{between, shapeRefusal, InRange, storeSize, generationSize, CellOf, offset};
+ghost use Rattle.memory.specs.Shape.{shapeRefusal, InRange, storeSize, generationSize, CellOf, offset};
 ghost use Rattle.memory.specs.State.{sound, rowTurned};
 ghost use Rattle.memory.specs.Operations.{setUpOf, outcomeBy, writeRefusal, groupWritten, rowWritten, writeOutcome, writeStore, releaseRefusal, releaseOutcome};
 ghost use Rattle.memory.specs.Laws.{TheMemory};
@@ -14,11 +14,11 @@ use simplex::LEAST_SYMBOLS;
 use simplex::MOST_SYMBOLS;
 
 // The most groups, bytes of a packet and rows of a memory.
-pub const MOST_GROUPS: usize = 8;
+const MOST_GROUPS: usize = 8;
 
-pub const MOST_BYTES: usize = 2048;
+const MOST_BYTES: usize = 2048;
 
-pub const MOST_ROWS: usize = 64;
+const MOST_ROWS: usize = 64;
 
 // K symbols in a group, m groups, P bytes in a packet, G rows.
 pub struct Shape {
@@ -57,27 +57,20 @@ pub fn the_memory()
     ensures { λ _. ⌜ TheMemory ⌝ }
 {}
 
-// Whether `n` is from `low` to `high`.
-fn is_between(low: usize, high: usize, n: usize) -> bool
-    ensures { λ r. ⌜ r ≡ between low high n ⌝ }
-{
-    low <= n && n <= high
-}
-
 // Set-up's refusal of a shape: 1 to 4.
 fn judge_shape(shape: Shape) -> Verdict
     ensures { λ r. ⌜ r ≡ shapeRefusal shape ⌝ }
 {
-    if !is_between(LEAST_SYMBOLS, MOST_SYMBOLS, shape.k) {
+    if !refusals::is_between(LEAST_SYMBOLS, MOST_SYMBOLS, shape.k) {
         return Verdict::Refused(1, 0);
     }
-    if !is_between(1, MOST_GROUPS, shape.m) {
+    if !refusals::is_between(1, MOST_GROUPS, shape.m) {
         return Verdict::Refused(2, 0);
     }
-    if !is_between(1, MOST_BYTES, shape.p) {
+    if !refusals::is_between(1, MOST_BYTES, shape.p) {
         return Verdict::Refused(3, 0);
     }
-    if !is_between(1, MOST_ROWS, shape.g) {
+    if !refusals::is_between(1, MOST_ROWS, shape.g) {
         return Verdict::Refused(4, 0);
     }
     Verdict::Accepted

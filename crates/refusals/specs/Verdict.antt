@@ -1,8 +1,13 @@
 -- How the refusal of an operation is said: a list of checks, of which the first that is not passed gives its number and place.
-use mathlib.Core.Bool.{Bool, true, false}
+use mathlib.Core.Bool.{Bool, true, false, _&&_}
 use Prim.Native.Nat.{ℕ}
+use lib.Dec.{leb}
 use Rattle.refusals.specs.declared.Verdict.{Verdict}
 use Rattle.refusals.specs.declared.Verdict.the-variants.{Accepted, Refused}
+
+-- Whether n is from low to high.
+abbrev pub between : (low high n : ℕ) → Bool
+between low high n = leb low n && leb n high
 
 -- The refusal with this number and place, unless the test is passed.
 abbrev pub check : (number place : ℕ) → Bool → Verdict

@@ -1,11 +1,13 @@
 -- The rule of a constant table: a test that is computed over all of its entries holds of the entry at each index.
-use mathlib.Core.Path.{_∙_, subst, sym}
+use mathlib.Core.Path.{_≡_, _∙_, ap, subst, sym}
 use mathlib.Core.Bool.{Bool, true, false, _&&_}
 use mathlib.Core.List.{List, [], _∷_}
 use Prim.Native.Nat.{ℕ, zero, suc, _+_, _<_}
 use native.Mathlib.Nat.{add-zero, zero-add, add-suc, suc-add, le-of-suc-le-suc, not-suc-le-zero}
 use lib.Dec.{T}
 use lib.ListN.{length, getD}
+use Rattle.simplex.specs.declared.Group.{Group}
+use Rattle.simplex.specs.Shape.{banksOf, groupOf}
 
 pub and-left : (a b : Bool) → T (a && b) → T a
 and-left true b t = tt
@@ -30,3 +32,8 @@ module _ {A : Type 0} (f : ℕ → A → Bool) (d : A) where
 
   pub at-index : (xs : List A) → T (every f 0 xs) → (k : ℕ) → k < length xs → T (f k (getD xs k d))
   at-index xs t k h = subst (λ (m : ℕ). T (f m (getD xs k d))) (zero-add k) (from xs 0 t k h)
+
+-- ---- the fixed table
+
+pub banks-of : (K : ℕ) {row : Group} → row ≡ groupOf K → row .banks ≡ banksOf K
+banks-of K e = ap (λ (g : Group). g .banks) e

@@ -1,12 +1,13 @@
 -- `audit::judge_counts` meets its contract: the counts from symbol i on are left to look at.
-use mathlib.Core.Path.{_≡_}
-use mathlib.Core.Logic.{⊎-elim}
+use mathlib.Core.Path.{_≡_, sym, _∙_}
+use mathlib.Core.Bool.{true}
 use Prim.Native.Nat.{_-_, _≤_, _<_}
 use native.Mathlib.Omega.{arith}
 use borrow.Author.Needs.{needs}
-use borrow.Author.Tests.{le-leb, lt-leb, ltb-true, ltb-false, eq-eqb, ne-eqb}
+use borrow.Author.Tests.{not-true, not-false, eq-eqb, ne-eqb}
 use lib.ListN.{length, drop, drop-of-length-le}
-use Rattle.refusals.specs.Verdict.{check}
+use Rattle.refusals.specs.Verdict.{between, check}
+use Rattle.refusals.proofs.Verdicts.{between-words}
 use Rattle.simplex.specs.Shape.{leastSymbols, mostSymbols}
 use Rattle.audit.specs.Audit.{allZero, countsRefusal}
 use Rattle.audit.proofs.Requests.{zero-at}
@@ -19,24 +20,27 @@ Inv-loop k counts i₀ i = (i ≤ mostSymbols) × (countsRefusal k counts ≡ ch
 abbrev μ-loop : tie.MeasureT-loop
 μ-loop k counts i₀ i = mostSymbols - i
 
+is-between-requires : tie.Need-is-between-requires Inv-loop μ-loop
+is-between-requires c κs = search needs
+
+-- what the test of K tells
+k-test : (c : tie.After-is-between Inv-loop μ-loop) → c .is-between .result ≡ between leastSymbols mostSymbols (c .before .args .k)
+k-test c = c .is-between .ensures
+
 returns : tie.Need-returns Inv-loop μ-loop
-returns c =
-    let k = c .before .args .k in
-    ⊎-elim (λ w. rw (lt-leb leastSymbols k (omega arith)))
-    (λ w. rw (le-leb leastSymbols k (omega (arith, ltb-true)), lt-leb k mostSymbols (omega (arith, ltb-true))))
-    (c .if1 .came)
+returns c = rw (sym (k-test (c .before)) ∙ not-true _ (c .if1 .taken))
 
 loop-holds : tie.Need-loop-holds Inv-loop μ-loop
 loop-holds c =
     let k = c .before .before .args .k in
-    let most : k ≤ mostSymbols = omega (arith, ltb-false) in
-    (omega arith, rw (le-leb leastSymbols k (omega arith), le-leb k mostSymbols most))
+    let e : between leastSymbols mostSymbols k ≡ true = sym (k-test (c .before)) ∙ not-false _ (c .if1 .left) in
+    (between-words leastSymbols mostSymbols k e .1, rw e)
 
-mul-if3 : tie.Need-mul-if3 Inv-loop μ-loop
-mul-if3 c = search needs
+mul-if2 : tie.Need-mul-if2 Inv-loop μ-loop
+mul-if2 c = search needs
 
-array-read-if3 : tie.Need-array-read-if3 Inv-loop μ-loop
-array-read-if3 c = search needs
+array-read-if2 : tie.Need-array-read-if2 Inv-loop μ-loop
+array-read-if2 c = search needs
 
 returns-2 : tie.Need-returns-2 Inv-loop μ-loop
 returns-2 c =
@@ -44,7 +48,7 @@ returns-2 c =
     let counts = c .before .before .before .before .before .args .t2 in
     let n : length counts ≡ mostSymbols = search needs in
     let h : i < length counts = omega arith in
-    rw (c .before .before .loop .inv .1, zero-at counts i h, ne-eqb _ _ (c .if3 .taken))
+    rw (c .before .before .loop .inv .1, zero-at counts i h, ne-eqb _ _ (c .if2 .taken))
 
 add-i : tie.Need-add-i Inv-loop μ-loop
 add-i c = search needs
@@ -58,7 +62,7 @@ loop-again c =
     let counts = c .before .before .before .before .before .args .t2 in
     let n : length counts ≡ mostSymbols = search needs in
     let h : i < length counts = omega arith in
-    (omega arith, rw (c .before .before .loop .inv .1, zero-at counts i h, eq-eqb _ _ (c .if3 .left)))
+    (omega arith, rw (c .before .before .loop .inv .1, zero-at counts i h, eq-eqb _ _ (c .if2 .left)))
 
 returns-3 : tie.Need-returns-3 Inv-loop μ-loop
 returns-3 c =
@@ -70,4 +74,4 @@ returns-3 c =
 pub judge-counts-spec : {M : Type 1} → statement M
 judge-counts-spec =
     tie.close
-    (tie.spec Inv-loop μ-loop returns loop-holds mul-if3 array-read-if3 returns-2 add-i loop-less loop-again returns-3)
+    (tie.spec Inv-loop μ-loop is-between-requires returns loop-holds mul-if2 array-read-if2 returns-2 add-i loop-less loop-again returns-3)

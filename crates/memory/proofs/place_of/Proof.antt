@@ -1,25 +1,23 @@
 -- `memory::place_of` meets its contract: the products fit.
-use mathlib.Core.Path.{_≡_, ap}
 use Prim.Native.Nat.{ℕ, _+_, _-_, _*_, _≤_}
 use native.Mathlib.Omega.{arith}
 use borrow.Author.Needs.{needs}
 use Rattle.simplex.specs.Shape.{mostSymbols, banksOf}
-use Rattle.simplex.specs.declared.Group.{Group}
+use Rattle.simplex.proofs.Tables.{banks-of}
 use Rattle.memory.specs.Shape.{mostGroups, mostRows, banks, offset}
 use Rattle.memory.proofs.Ranges.{few-banks, all-banks, scaled}
 use Rattle.memory.proofs.place_of.Statement.{statement}
 use Rattle.memory.proofs.place_of.Tie as tie
 
-banks-are : (c : tie.After-group-of) → c .group-of .result .banks ≡ banks (c .before .args .shape)
-banks-are c = ap (λ (g : Group). g .banks) (c .group-of .ensures)
-
+-- the banks of the groups before this one and in it are few, and so are their rows
 few : (c : tie.After-group-of) → c .before .args .x * c .group-of .result .banks + c .before .args .b ≤ mostGroups * banksOf mostSymbols + banksOf mostSymbols
 few c =
     let w = c .before .pre in
     let sh = c .before .args .shape in
-    rw (banks-are c) (omega (arith, all-banks sh (c .before .args .x) (w .0) (omega (arith, w .1 .group, w .0 .groups .1)), few-banks sh (w .0), w .1 .last))
+    let groups = all-banks sh (c .before .args .x) (w .0) (omega (arith, w .1 .group, w .0 .groups .1)) in
+    rw (banks-of (sh .k) (c .group-of .ensures)) (omega (arith, groups, few-banks sh (w .0), w .1 .last))
 
--- how many cells of its group come before it, and how many rows of cells
+-- the banks that come before this one
 abbrev Before : tie.After-group-of → ℕ
 Before c = c .before .args .x * c .group-of .result .banks + c .before .args .b - 1
 
@@ -52,7 +50,7 @@ mul-result-3 c = let d = c .before .before .before in omega (arith, scaled _ (d 
 
 returns : tie.Need-returns
 unfolding offset
-returns c = rw (banks-are (c .before .before .before))
+returns c = rw (banks-of (c .before .before .before .before .args .shape .k) (c .before .before .before .group-of .ensures))
 
 pub place-of-spec : {M : Type 1} → statement M
 place-of-spec =

@@ -1,19 +1,17 @@
 -- `memory::store_size` meets its contract: the products fit.
-use mathlib.Core.Path.{_≡_, ap}
 use Prim.Native.Nat.{_*_, _≤_}
 use native.Mathlib.Omega.{arith}
 use Rattle.simplex.specs.Shape.{mostSymbols, banksOf}
-use Rattle.simplex.specs.declared.Group.{Group}
+use Rattle.simplex.proofs.Tables.{banks-of}
 use Rattle.memory.specs.Shape.{mostGroups, banks, storeSize}
 use Rattle.memory.proofs.Ranges.{all-banks, scaled}
 use Rattle.memory.proofs.store_size.Statement.{statement}
 use Rattle.memory.proofs.store_size.Tie as tie
 
-banks-are : (c : tie.After-group-of) → c .group-of .result .banks ≡ banks (c .before .args .shape)
-banks-are c = ap (λ (g : Group). g .banks) (c .group-of .ensures)
-
 many : (c : tie.After-group-of) → c .before .args .shape .m * c .group-of .result .banks ≤ mostGroups * banksOf mostSymbols
-many c = rw (banks-are c) (all-banks (c .before .args .shape) (c .before .args .shape .m) (c .before .pre) (c .before .pre .groups .1))
+many c =
+    let sh = c .before .args .shape in
+    rw (banks-of (sh .k) (c .group-of .ensures)) (all-banks sh (sh .m) (c .before .pre) (c .before .pre .groups .1))
 
 group-of-requires : tie.Need-group-of-requires
 group-of-requires c κs = c .pre .symbols
@@ -32,7 +30,7 @@ mul-result-3 c =
 
 returns : tie.Need-returns
 unfolding storeSize
-returns c = rw (banks-are (c .before .before .before .before))
+returns c = rw (banks-of (c .before .before .before .before .before .args .shape .k) (c .before .before .before .before .group-of .ensures))
 
 pub store-size-spec : {M : Type 1} → statement M
 store-size-spec =

@@ -1,7 +1,7 @@
--- `memory::is_between` meets its contract.
+-- `refusals::is_between` meets its contract.
 use borrow.Author.Tests.{le-leb, lt-leb}
-use Rattle.memory.proofs.is_between.Statement.{statement}
-use Rattle.memory.proofs.is_between.Tie as tie
+use Rattle.refusals.proofs.is_between.Statement.{statement}
+use Rattle.refusals.proofs.is_between.Tie as tie
 
 returns : tie.Need-returns
 returns c = rw (le-leb _ _ (c .if1 .taken))
