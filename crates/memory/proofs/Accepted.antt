@@ -6,7 +6,7 @@ use borrow.Author.Tests.{eqb-true, ltb-true, not-true}
 use Rattle.refusals.specs.declared.Verdict.the-variants.{Accepted}
 use Rattle.refusals.proofs.Verdicts.{checks}
 use Rattle.memory.specs.declared.State.{State}
-use Rattle.memory.specs.Shape.{storeSize, generationSize}
+use Rattle.layout.specs.Shape.{storeSize, generationSize}
 use Rattle.memory.specs.State.{isFull, sound}
 use Rattle.memory.specs.Operations.{writeRefusal, releaseRefusal}
 

@@ -7,10 +7,10 @@ use native.Mathlib.Omega.{arith}
 use lib.ListN.{length}
 use lib.Pow.{pow-mono}
 use Rattle.simplex.specs.Filling.{Fillable}
-use Rattle.memory.specs.declared.Shape.{Shape}
-use Rattle.memory.specs.Shape.{InRange, banks, storeSize, CellOf, offset}
+use Rattle.layout.specs.declared.Shape.{Shape}
+use Rattle.layout.specs.Shape.{InRange, banks, storeSize, CellOf, offset}
 use Rattle.memory.specs.Operations.{groupWritten, groupsWritten, packetsIn}
-use Rattle.memory.proofs.Places.{inside, offset-spaced}
+use Rattle.layout.proofs.Places.{inside, offset-spaced}
 
 pub some-banks : (sh : Shape) → InRange sh → 3 ≤ banks sh
 some-banks sh w = let l : 2 ^ 2 ≤ 2 ^ sh .k = pow-mono (w .symbols .least) in omega arith

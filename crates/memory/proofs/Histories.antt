@@ -15,16 +15,17 @@ use Rattle.refusals.specs.declared.Verdict.{Verdict}
 use Rattle.refusals.specs.declared.Verdict.the-variants.{Accepted, Refused}
 use Rattle.refusals.specs.Verdict.{ifRefused}
 use Rattle.simplex.specs.Code.{bankCell}
-use Rattle.memory.specs.declared.Shape.{Shape}
+use Rattle.layout.specs.declared.Shape.{Shape}
 use Rattle.memory.specs.declared.State.{State}
 use Rattle.memory.specs.declared.Outcome.{Outcome}
 use Rattle.memory.specs.declared.Answer.the-variants.{FullRows}
-use Rattle.memory.specs.Shape.{shapeRefusal, storeSize, generationSize, CellOf, cellAt}
+use Rattle.layout.specs.Shape.{shapeRefusal, storeSize, generationSize, CellOf, cellAt}
 use Rattle.memory.specs.State.{isFull, fullRows, empty, rowTurned, Sound}
 use Rattle.memory.specs.Operations.{answerBy, outcomeBy, packetsIn, rowWritten, writeRefusal, releaseRefusal}
 use Rattle.memory.specs.History.{Operation, write, release, History, Memory, outcomeOf, storeAfter, run}
 use Rattle.memory.specs.History.{verdictIn, fullBy, writtenBy, fullIn, lastWritten, filledBy, emptiedBy, inAll, Remembers, AfterAnyHistory}
-use Rattle.memory.proofs.Ranges.{words-sound, range-words}
+use Rattle.layout.proofs.Ranges.{range-words}
+use Rattle.memory.proofs.States.{words-sound}
 use Rattle.memory.proofs.Accepted.{Writable, Releasable, written-facts, released-facts}
 use Rattle.memory.proofs.Turning.{turned-sound, row-filled, row-emptied}
 use Rattle.memory.proofs.Writing.{row-written, other-rows}

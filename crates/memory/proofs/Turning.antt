@@ -6,9 +6,9 @@ use Prim.Native.Nat.{ℕ, _<_}
 use native.Mathlib.Omega.{arith}
 use Rattle.bits.specs.Marks.{marked, howMany}
 use Rattle.bits.proofs.Marks.{turned-itself, turned-other, none-more, one-more}
-use Rattle.memory.specs.declared.Shape.{Shape}
+use Rattle.layout.specs.declared.Shape.{Shape}
 use Rattle.memory.specs.declared.State.{State}
-use Rattle.memory.specs.Shape.{mostRows}
+use Rattle.layout.specs.Shape.{mostRows}
 use Rattle.memory.specs.State.{isFull, fullRows, Sound, rowTurned}
 use Rattle.memory.specs.Laws.{OneMore}
 

@@ -12,11 +12,11 @@ use Rattle.cells.proofs.Steps.{step-within}
 use Rattle.simplex.specs.Code.{Packet, Sized, bankCell}
 use Rattle.simplex.specs.Filling.{filled, spaced, Holds}
 use Rattle.simplex.proofs.Filling.{packet-at, packets-sized, length-filled, filled-same, filled-apart, filled-holds}
-use Rattle.memory.specs.declared.Shape.{Shape}
-use Rattle.memory.specs.Shape.{banks, storeSize, generationSize, CellOf, offset, cellAt}
+use Rattle.layout.specs.declared.Shape.{Shape}
+use Rattle.layout.specs.Shape.{banks, storeSize, generationSize, CellOf, offset, cellAt}
 use Rattle.memory.specs.Operations.{packetsIn, groupWritten, groupsWritten, rowWritten}
 use Rattle.memory.specs.Laws.{OutsideRow, Written}
-use Rattle.memory.proofs.Places.{inside, apart, offset-spaced, room}
+use Rattle.layout.proofs.Places.{inside, apart, offset-spaced, room}
 
 -- ---- the packets of a group
 

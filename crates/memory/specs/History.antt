@@ -10,10 +10,10 @@ use Rattle.refusals.specs.declared.Verdict.{Verdict}
 use Rattle.refusals.specs.declared.Verdict.the-variants.{Accepted}
 use Rattle.refusals.specs.Verdict.{check, _then_, ifRefused}
 use Rattle.simplex.specs.Code.{bankCell}
-use Rattle.memory.specs.declared.Shape.{Shape}
+use Rattle.layout.specs.declared.Shape.{Shape}
 use Rattle.memory.specs.declared.State.{State}
 use Rattle.memory.specs.declared.Outcome.{Outcome}
-use Rattle.memory.specs.Shape.{storeSize, generationSize, CellOf, cellAt}
+use Rattle.layout.specs.Shape.{storeSize, generationSize, CellOf, cellAt}
 use Rattle.memory.specs.State.{isFull, fullRows, Sound}
 use Rattle.memory.specs.Operations.{setUpOf, answerBy, packetsIn, writeOutcome, writeStore, releaseOutcome}
 

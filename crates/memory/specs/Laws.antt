@@ -3,14 +3,14 @@ use mathlib.Core.Path.{_≡_}
 use mathlib.Core.Logic.{_≢_, _↔_}
 use mathlib.Core.Bool.{true, false}
 use mathlib.Core.List.{List, []}
-use Prim.Native.Nat.{ℕ, suc, _+_, _*_, _≤_, _<_}
+use Prim.Native.Nat.{ℕ, suc, _+_, _*_, _<_}
 use lib.ListN.{length, getD}
 use Rattle.refusals.specs.declared.Verdict.the-variants.{Accepted, Refused}
-use Rattle.cells.specs.Cell.{cell, Outside, Apart}
+use Rattle.cells.specs.Cell.{cell, Outside}
 use Rattle.simplex.specs.Code.{bankCell}
-use Rattle.memory.specs.declared.Shape.{Shape}
+use Rattle.layout.specs.declared.Shape.{Shape}
 use Rattle.memory.specs.declared.State.{State}
-use Rattle.memory.specs.Shape.{shapeRefusal, InRange, storeSize, CellOf, offset, cellAt}
+use Rattle.layout.specs.Shape.{CellOf, offset, cellAt}
 use Rattle.memory.specs.State.{isFull, fullRows, sound, Sound}
 use Rattle.memory.specs.Operations.{packetsIn, writeRefusal, writeOutcome, writeStore, releaseRefusal, releaseOutcome}
 use Rattle.memory.specs.History.{AfterAnyHistory}
@@ -34,18 +34,13 @@ pub record OneMore (row : ℕ) (fewer more : State) : Type 0 where
   pub others : (r : ℕ) → r ≢ row → isFull more r ≡ isFull fewer r
   pub count : fullRows more ≡ suc (fullRows fewer)
 
--- ranges, states: set-up's ranges and "not broken" in words. broken: a write and a release of any other state are refused with 5.
--- inside, apart: a cell lies within the store, and two cells that differ in group, bank or row have no byte in common.
+-- states: "not broken" in words. broken: a write and a release of any other state are refused with 5.
 -- packets: packet i of group x stands where a generation with the packets of group 0 in symbol order, then group 1, and so on, has it.
 -- written: an accepted write makes its row full and sets the cells of that row alone. released: an accepted release makes a full row empty.
 -- histories: what a memory holds and answers after any operations.
 pub record TheMemory : Type 0 where
-  pub ranges : (sh : Shape) → (shapeRefusal sh ≡ Accepted) ↔ InRange sh
   pub states : (st : State) → (sound st ≡ true) ↔ Sound st
   pub broken : (st : State) → (Sound st → ⊥) → (size row len : ℕ) → (writeRefusal st size row len ≡ Refused 5 0) × (releaseRefusal st row ≡ Refused 5 0)
-  pub inside : (sh : Shape) (x b r : ℕ) → CellOf sh x b r → offset sh x b r + sh .p ≤ storeSize sh
-  pub apart : (sh : Shape) (x b r y c q : ℕ) → CellOf sh x b r → CellOf sh y c q → ((x ≡ y) × (b ≡ c) × (r ≡ q) → ⊥)
-      → Apart (sh .p) (offset sh x b r) (offset sh y c q)
   pub packets : (sh : Shape) (generation : List ℕ) (x i : ℕ) → i < sh .k
       → getD (packetsIn sh generation x) i [] ≡ cell generation ((x * sh .k + i) * sh .p) (sh .p)
   pub written : (st : State) (s : List ℕ) (row : ℕ) (generation : List ℕ) → writeRefusal st (length s) row (length generation) ≡ Accepted

@@ -1,5 +1,4 @@
--- The definitions of the crate: the shape and the state of a memory, its operations, its histories, and its laws.
-pub mod Shape
+-- The definitions of the crate: the state of a memory, its operations, its histories, and its laws.
 pub mod State
 pub mod Operations
 pub mod History

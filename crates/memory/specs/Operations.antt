@@ -10,13 +10,13 @@ use Rattle.refusals.specs.Verdict.{check, _then_, ifRefused}
 use Rattle.cells.specs.Cell.{cell}
 use Rattle.simplex.specs.Code.{Packet}
 use Rattle.simplex.specs.Filling.{packetsOf, filled}
-use Rattle.memory.specs.declared.Shape.{Shape}
+use Rattle.layout.specs.declared.Shape.{Shape}
 use Rattle.memory.specs.declared.State.{State}
 use Rattle.memory.specs.declared.SetUp.{SetUp}
 use Rattle.memory.specs.declared.Outcome.{Outcome}
 use Rattle.memory.specs.declared.Answer.{Answer}
 use Rattle.memory.specs.declared.Answer.the-variants.{FullRows, Refused as NotDone}
-use Rattle.memory.specs.Shape.{shapeRefusal, banks, storeSize, generationSize, offset}
+use Rattle.layout.specs.Shape.{shapeRefusal, banks, storeSize, generationSize, offset}
 use Rattle.memory.specs.State.{isFull, fullRows, sound, empty, zeroState, rowTurned}
 
 -- What set-up gives: a memory of that shape with every row empty, or a refusal and a state of zeros.

@@ -4,9 +4,9 @@ use mathlib.Core.Bool.{Bool, false, _&&_}
 use Prim.Native.Nat.{ℕ, _≤_}
 use Rattle.bits.specs.Marks.{marked, turned, noneFrom, howMany}
 use Rattle.refusals.specs.Verdict.{passed}
-use Rattle.memory.specs.declared.Shape.{Shape}
+use Rattle.layout.specs.declared.Shape.{Shape}
 use Rattle.memory.specs.declared.State.{State}
-use Rattle.memory.specs.Shape.{shapeRefusal, InRange}
+use Rattle.layout.specs.Shape.{shapeRefusal, InRange}
 
 -- Whether row r is full.
 abbrev pub isFull : State → ℕ → Bool

@@ -1,32 +1,16 @@
-// A memory: its shape, its state, and the operations that set it up, write a row and release one.
+// A memory: its state, and the operations that set it up, write a row and release one.
 ghost use mathlib.Core.Path.{_≡_};
 ghost use mathlib.Core.Bool.{true};
 ghost use Prim.Native.Nat.{_*_, _<_};
 ghost use lib.ListN.{length};
 ghost use Rattle.refusals.specs.declared.Verdict.the-variants.{Accepted};
 ghost use Rattle.simplex.specs.Filling.{packetsOf};
-ghost use Rattle.memory.specs.Shape.{shapeRefusal, InRange, storeSize, generationSize, CellOf, offset};
+ghost use Rattle.layout.specs.Shape.{InRange, storeSize, generationSize};
 ghost use Rattle.memory.specs.State.{sound, rowTurned};
 ghost use Rattle.memory.specs.Operations.{setUpOf, outcomeBy, writeRefusal, groupWritten, rowWritten, writeOutcome, writeStore, releaseRefusal, releaseOutcome};
 ghost use Rattle.memory.specs.Laws.{TheMemory};
+use layout::Shape;
 use refusals::Verdict;
-use simplex::LEAST_SYMBOLS;
-use simplex::MOST_SYMBOLS;
-
-// The most groups, bytes of a packet and rows of a memory.
-const MOST_GROUPS: usize = 8;
-
-const MOST_BYTES: usize = 2048;
-
-const MOST_ROWS: usize = 64;
-
-// K symbols in a group, m groups, P bytes in a packet, G rows.
-pub struct Shape {
-    pub k: usize,
-    pub m: usize,
-    pub p: usize,
-    pub g: usize,
-}
 
 // What a memory's operations are given and give back. Row r is full where it is marked in `full`.
 pub struct State {
@@ -57,60 +41,15 @@ pub fn the_memory()
     ensures { λ _. ⌜ TheMemory ⌝ }
 {}
 
-// Set-up's refusal of a shape: 1 to 4.
-fn judge_shape(shape: Shape) -> Verdict
-    ensures { λ r. ⌜ r ≡ shapeRefusal shape ⌝ }
-{
-    if !refusals::is_between(LEAST_SYMBOLS, MOST_SYMBOLS, shape.k) {
-        return Verdict::Refused(1, 0);
-    }
-    if !refusals::is_between(1, MOST_GROUPS, shape.m) {
-        return Verdict::Refused(2, 0);
-    }
-    if !refusals::is_between(1, MOST_BYTES, shape.p) {
-        return Verdict::Refused(3, 0);
-    }
-    if !refusals::is_between(1, MOST_ROWS, shape.g) {
-        return Verdict::Refused(4, 0);
-    }
-    Verdict::Accepted
-}
-
 // Whether a state keeps set-up's ranges and marks no row from G on.
 fn is_sound(state: State) -> bool
     ensures { λ r. ⌜ r ≡ sound state ⌝ }
 {
-    let verdict = judge_shape(state.shape);
+    let verdict = layout::judge_shape(state.shape);
     if let Verdict::Refused(_, _) = verdict {
         return false;
     }
     bits::none_from(state.full, state.shape.g)
-}
-
-// The store's length.
-fn store_size(shape: Shape) -> usize
-    requires { ⌜ InRange shape ⌝ }
-    ensures { λ r. ⌜ r ≡ storeSize shape ⌝ }
-{
-    let group = simplex::group_of(shape.k);
-    shape.m * group.banks * shape.g * shape.p
-}
-
-// The length of a generation.
-fn generation_size(shape: Shape) -> usize
-    requires { ⌜ InRange shape ⌝ }
-    ensures { λ r. ⌜ r ≡ generationSize shape ⌝ }
-{
-    shape.m * shape.k * shape.p
-}
-
-// Where bank b of group x keeps row r.
-fn place_of(shape: Shape, x: usize, b: usize, r: usize) -> usize
-    requires { ⌜ InRange shape × CellOf shape x b r ⌝ }
-    ensures { λ at. ⌜ at ≡ offset shape x b r ⌝ }
-{
-    let group = simplex::group_of(shape.k);
-    ((x * group.banks + b - 1) * shape.g + r) * shape.p
 }
 
 // The refusal of a write: 5, 6, 7, 8, 10.
@@ -120,7 +59,7 @@ fn judge_write(state: State, size: usize, row: usize, len: usize) -> Verdict
     if !is_sound(state) {
         return Verdict::Refused(5, 0);
     }
-    if size != store_size(state.shape) {
+    if size != layout::store_size(state.shape) {
         return Verdict::Refused(6, 0);
     }
     if state.shape.g <= row {
@@ -129,7 +68,7 @@ fn judge_write(state: State, size: usize, row: usize, len: usize) -> Verdict
     if bits::is_marked(state.full, row) {
         return Verdict::Refused(8, 0);
     }
-    if len != generation_size(state.shape) {
+    if len != layout::generation_size(state.shape) {
         return Verdict::Refused(10, 0);
     }
     Verdict::Accepted
@@ -157,7 +96,7 @@ fn write_group(store: &mut [u8], shape: Shape, x: usize, row: usize, packets: &[
     requires { ⌜ (length (now store) ≡ storeSize shape) × (length (now packets) ≡ shape .k * shape .p) ⌝ }
     ensures { λ _. ⌜ now (store .exit) ≡ groupWritten shape x row (packetsOf (shape .p) (shape .k) (now (packets .entry))) (now (store .entry)) ⌝ }
 {
-    let at = place_of(shape, x, 1, row);
+    let at = layout::place_of(shape, x, 1, row);
     simplex::fill_group(store, at, shape.g * shape.p, packets, shape.p, shape.k)
 }
 
@@ -184,7 +123,7 @@ impl State {
         ensures { λ r. ⌜ r ≡ setUpOf (record { k = k; m = m; p = p; g = g }) ⌝ }
     {
         let shape = Shape { k, m, p, g };
-        let verdict = judge_shape(shape);
+        let verdict = layout::judge_shape(shape);
         if let Verdict::Refused(number, place) = verdict {
             let none = Shape {
                 k: 0,

@@ -1,6 +1,6 @@
 -- How the refusal of an operation is said: a list of checks, of which the first that is not passed gives its number and place.
 use mathlib.Core.Bool.{Bool, true, false, _&&_}
-use Prim.Native.Nat.{ℕ}
+use Prim.Native.Nat.{ℕ, zero, suc}
 use lib.Dec.{leb}
 use Rattle.refusals.specs.declared.Verdict.{Verdict}
 use Rattle.refusals.specs.declared.Verdict.the-variants.{Accepted, Refused}
@@ -29,3 +29,8 @@ infixr 20 _then_
 abbrev pub _then_ : Verdict → Verdict → Verdict
 Accepted then next = next
 Refused number place then next = Refused number place
+
+-- The first refusal of f 0, f 1, .., f (n - 1).
+abbrev pub first : (ℕ → Verdict) → ℕ → Verdict
+first f zero = Accepted
+first f (suc n) = first f n then f n

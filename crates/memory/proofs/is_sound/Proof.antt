@@ -3,9 +3,9 @@ use mathlib.Core.Path.{_≡_, sym, _∙_}
 use native.Mathlib.Omega.{arith}
 use borrow.Author.Needs.{needs}
 use Rattle.refusals.specs.declared.Verdict.the-variants.{Accepted}
-use Rattle.memory.specs.Shape.{shapeRefusal}
+use Rattle.layout.specs.Shape.{shapeRefusal}
 use Rattle.memory.specs.State.{sound}
-use Rattle.memory.proofs.Ranges.{range-words}
+use Rattle.layout.proofs.Ranges.{range-words}
 use Rattle.memory.proofs.is_sound.Statement.{statement}
 use Rattle.memory.proofs.is_sound.Tie as tie
 

@@ -6,7 +6,7 @@ use borrow.Author.Needs.{needs}
 use borrow.Author.Tests.{not-true, not-false, lt-ltb, le-ltb}
 use Rattle.memory.specs.State.{sound}
 use Rattle.memory.specs.Operations.{releaseRefusal}
-use Rattle.memory.proofs.Ranges.{sound-words}
+use Rattle.memory.proofs.States.{sound-words}
 use Rattle.memory.proofs.judge_release.Statement.{statement}
 use Rattle.memory.proofs.judge_release.Tie as tie
 

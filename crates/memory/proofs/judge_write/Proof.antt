@@ -6,10 +6,10 @@ use borrow.Author.Needs.{needs}
 use borrow.Author.Tests.{not-true, not-false, lt-ltb, le-ltb, eq-eqb, ne-eqb}
 use lib.Dec.{eqb}
 use Rattle.refusals.specs.Verdict.{check}
-use Rattle.memory.specs.Shape.{storeSize, generationSize}
+use Rattle.layout.specs.Shape.{storeSize, generationSize}
 use Rattle.memory.specs.State.{sound}
 use Rattle.memory.specs.Operations.{writeRefusal}
-use Rattle.memory.proofs.Ranges.{sound-words}
+use Rattle.memory.proofs.States.{sound-words}
 use Rattle.memory.proofs.judge_write.Statement.{statement}
 use Rattle.memory.proofs.judge_write.Tie as tie
 

@@ -9,9 +9,8 @@ use Rattle.memory.specs.declared.State.{State}
 use Rattle.memory.specs.State.{sound, Sound}
 use Rattle.memory.specs.Operations.{writeRefusal, writeOutcome, writeStore, releaseRefusal, releaseOutcome}
 use Rattle.memory.specs.Laws.{Written, OneMore}
-use Rattle.memory.proofs.Ranges.{range-words, words-range, sound-words, words-sound}
+use Rattle.memory.proofs.States.{sound-words, words-sound}
 use Rattle.memory.proofs.Accepted.{written-facts, released-facts}
-use Rattle.memory.proofs.Places.{inside, apart}
 use Rattle.memory.proofs.Turning.{row-filled, row-emptied}
 use Rattle.memory.proofs.Writing.{packet-in, row-written}
 use Rattle.memory.proofs.Histories.{after-any-history}
@@ -37,11 +36,8 @@ released st row e = let w = released-facts st row e in rw e (row-emptied st row 
 
 returns : tie.Need-returns
 returns c = record {
-  ranges = λ sh. (range-words sh, words-range sh);
   states = λ st. (sound-words st, words-sound st);
   broken = broken;
-  inside = inside;
-  apart = apart;
   packets = packet-in;
   written = written;
   released = released;

@@ -3,8 +3,7 @@ use mathlib.Core.Path.{sym, _∙_}
 use native.Mathlib.Omega.{arith}
 use borrow.Author.Needs.{needs}
 use denote.Ref.{now}
-use Rattle.memory.specs.Shape.{banks}
-use Rattle.memory.proofs.Ranges.{row-bytes}
+use Rattle.layout.proofs.Ranges.{row-bytes}
 use Rattle.memory.proofs.Writing.{group-spaced}
 use Rattle.memory.proofs.Groups.{some-banks, fillable}
 use Rattle.memory.proofs.write_group.Statement.{statement}

@@ -11,7 +11,7 @@ use Rattle.cells.proofs.Steps.{step-more}
 use Rattle.cells.specs.Cell.{cell}
 use Rattle.simplex.specs.Filling.{packetsOf}
 use Rattle.memory.specs.Operations.{groupWritten, groupsWritten}
-use Rattle.memory.proofs.Ranges.{group-bytes}
+use Rattle.layout.proofs.Ranges.{group-bytes}
 use Rattle.memory.proofs.Writing.{group-within}
 use Rattle.memory.proofs.Groups.{none-written, one-written}
 use Rattle.memory.proofs.write_row.Statement.{statement}

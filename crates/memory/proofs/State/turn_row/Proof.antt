@@ -4,9 +4,9 @@ use Prim.Native.Nat.{ℕ}
 use native.Mathlib.Omega.{arith}
 use borrow.Author.Needs.{needs}
 use Rattle.bits.specs.Marks.{marked, howMany}
-use Rattle.memory.specs.Shape.{mostRows}
+use Rattle.layout.specs.Shape.{mostRows}
 use Rattle.memory.specs.State.{fullRows, rowTurned}
-use Rattle.memory.proofs.Ranges.{sound-words}
+use Rattle.memory.proofs.States.{sound-words}
 use Rattle.memory.proofs.Turning.{turned-sound, all-counted}
 use Rattle.memory.proofs.State.turn_row.Statement.{statement}
 use Rattle.memory.proofs.State.turn_row.Tie as tie

@@ -5,7 +5,7 @@ use lib.ListN.{length}
 use denote.Ref.{now}
 use Rattle.refusals.specs.declared.Verdict.the-variants.{Accepted}
 use Rattle.memory.specs.Operations.{writeRefusal}
-use Rattle.memory.proofs.Ranges.{sound-words}
+use Rattle.memory.proofs.States.{sound-words}
 use Rattle.memory.proofs.Accepted.{Writable, written-facts}
 use Rattle.memory.proofs.State.write.Statement.{statement}
 use Rattle.memory.proofs.State.write.Tie as tie

@@ -1,13 +1,13 @@
--- `memory::place_of` meets its contract: the products fit.
+-- `layout::place_of` meets its contract: the products fit.
 use Prim.Native.Nat.{ℕ, _+_, _-_, _*_, _≤_}
 use native.Mathlib.Omega.{arith}
 use borrow.Author.Needs.{needs}
 use Rattle.simplex.specs.Shape.{mostSymbols, banksOf}
 use Rattle.simplex.proofs.Tables.{banks-of}
-use Rattle.memory.specs.Shape.{mostGroups, mostRows, banks, offset}
-use Rattle.memory.proofs.Ranges.{few-banks, all-banks, scaled}
-use Rattle.memory.proofs.place_of.Statement.{statement}
-use Rattle.memory.proofs.place_of.Tie as tie
+use Rattle.layout.specs.Shape.{mostGroups, mostRows, banks, offset}
+use Rattle.layout.proofs.Ranges.{few-banks, all-banks, scaled}
+use Rattle.layout.proofs.place_of.Statement.{statement}
+use Rattle.layout.proofs.place_of.Tie as tie
 
 -- the banks of the groups before this one and in it are few, and so are their rows
 few : (c : tie.After-group-of) → c .before .args .x * c .group-of .result .banks + c .before .args .b ≤ mostGroups * banksOf mostSymbols + banksOf mostSymbols

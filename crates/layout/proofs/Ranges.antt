@@ -1,22 +1,16 @@
--- Set-up's ranges and "not broken", as tests and in words; the sizes that fit them.
+-- Set-up's ranges, as a test and in words; the sizes that fit them.
 use mathlib.Core.Path.{_≡_}
 use mathlib.Core.Bool.{true}
 use Prim.Native.Nat.{ℕ, _-_, _*_, _^_, _≤_}
 use native.Mathlib.Nat.{mul-le-mul}
 use native.Mathlib.Omega.{arith}
 use lib.Pow.{pow-mono}
-use Rattle.bits.specs.Marks.{noneFrom}
-use Rattle.bits.proofs.Marks.{none-marked, marked-none}
 use Rattle.refusals.specs.declared.Verdict.the-variants.{Accepted}
-use Rattle.refusals.specs.Verdict.{between, passed}
-use Rattle.refusals.proofs.Verdicts.{checks, passed-accepted, both, between-words, words-between}
+use Rattle.refusals.specs.Verdict.{between}
+use Rattle.refusals.proofs.Verdicts.{checks, between-words, words-between}
 use Rattle.simplex.specs.Shape.{leastSymbols, mostSymbols, banksOf}
-use Rattle.memory.specs.declared.Shape.{Shape}
-use Rattle.memory.specs.declared.State.{State}
-use Rattle.memory.specs.Shape.{mostGroups, mostBytes, mostRows, shapeRefusal, InRange, banks}
-use Rattle.memory.specs.State.{sound, Sound}
-
--- ---- the ranges of a shape
+use Rattle.layout.specs.declared.Shape.{Shape}
+use Rattle.layout.specs.Shape.{mostGroups, mostBytes, mostRows, shapeRefusal, InRange, banks}
 
 pub range-words : (sh : Shape) → shapeRefusal sh ≡ Accepted → InRange sh
 unfolding shapeRefusal
@@ -41,18 +35,6 @@ words-range sh w = rw (
   words-between 1 mostBytes (sh .p) (w .bytes),
   words-between 1 mostRows (sh .g) (w .rows),
 )
-
--- ---- a state that is not broken
-
-pub words-sound : (st : State) → Sound st → sound st ≡ true
-unfolding sound
-words-sound st w = rw (words-range (st .shape) (w .ranges), marked-none (st .full) (st .shape .g) (w .rows))
-
-pub sound-words : (st : State) → sound st ≡ true → Sound st
-unfolding sound
-sound-words st e =
-    let t = both (passed (shapeRefusal (st .shape))) (noneFrom (st .full) (st .shape .g)) .0 e in
-    record { ranges = range-words (st .shape) (passed-accepted _ (t .0)); rows = none-marked (st .full) (st .shape .g) (t .1) }
 
 -- ---- sizes: no product of the numbers of a shape in range is large
 

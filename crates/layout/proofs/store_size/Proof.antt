@@ -1,12 +1,12 @@
--- `memory::store_size` meets its contract: the products fit.
+-- `layout::store_size` meets its contract: the products fit.
 use Prim.Native.Nat.{_*_, _≤_}
 use native.Mathlib.Omega.{arith}
 use Rattle.simplex.specs.Shape.{mostSymbols, banksOf}
 use Rattle.simplex.proofs.Tables.{banks-of}
-use Rattle.memory.specs.Shape.{mostGroups, banks, storeSize}
-use Rattle.memory.proofs.Ranges.{all-banks, scaled}
-use Rattle.memory.proofs.store_size.Statement.{statement}
-use Rattle.memory.proofs.store_size.Tie as tie
+use Rattle.layout.specs.Shape.{mostGroups, banks, storeSize}
+use Rattle.layout.proofs.Ranges.{all-banks, scaled}
+use Rattle.layout.proofs.store_size.Statement.{statement}
+use Rattle.layout.proofs.store_size.Tie as tie
 
 many : (c : tie.After-group-of) → c .before .args .shape .m * c .group-of .result .banks ≤ mostGroups * banksOf mostSymbols
 many c =

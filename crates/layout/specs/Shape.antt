@@ -6,7 +6,7 @@ use Rattle.refusals.specs.Verdict.{between, check, _then_}
 use Rattle.cells.specs.Cell.{cell}
 use Rattle.simplex.specs.Shape.{leastSymbols, mostSymbols, SymbolsInRange, banksOf}
 use Rattle.simplex.specs.Code.{Packet}
-use Rattle.memory.specs.declared.Shape.{Shape}
+use Rattle.layout.specs.declared.Shape.{Shape}
 
 -- The most groups, bytes of a packet and rows of a memory.
 abbrev pub mostGroups : ℕ

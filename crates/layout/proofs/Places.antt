@@ -6,8 +6,8 @@ use lib.Arith.{digits-lt}
 use Rattle.cells.specs.Cell.{Apart}
 use Rattle.cells.proofs.Steps.{step-within, digits-same, multiples-apart}
 use Rattle.simplex.specs.Filling.{spaced, Room}
-use Rattle.memory.specs.declared.Shape.{Shape}
-use Rattle.memory.specs.Shape.{banks, storeSize, CellOf, offset}
+use Rattle.layout.specs.declared.Shape.{Shape}
+use Rattle.layout.specs.Shape.{banks, storeSize, CellOf, offset}
 
 pub inside : (sh : Shape) (x b r : ℕ) → CellOf sh x b r → offset sh x b r + sh .p ≤ storeSize sh
 unfolding offset storeSize

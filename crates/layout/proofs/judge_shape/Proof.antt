@@ -1,13 +1,13 @@
--- `memory::judge_shape` meets its contract: each test in its order.
+-- `layout::judge_shape` meets its contract: each test in its order.
 use mathlib.Core.Path.{_≡_, sym, _∙_}
 use mathlib.Core.Bool.{true}
 use borrow.Author.Needs.{needs}
 use borrow.Author.Tests.{not-true, not-false}
 use Rattle.refusals.specs.Verdict.{between}
 use Rattle.simplex.specs.Shape.{leastSymbols, mostSymbols}
-use Rattle.memory.specs.Shape.{mostGroups, mostBytes, mostRows, shapeRefusal}
-use Rattle.memory.proofs.judge_shape.Statement.{statement}
-use Rattle.memory.proofs.judge_shape.Tie as tie
+use Rattle.layout.specs.Shape.{mostGroups, mostBytes, mostRows, shapeRefusal}
+use Rattle.layout.proofs.judge_shape.Statement.{statement}
+use Rattle.layout.proofs.judge_shape.Tie as tie
 
 -- what each test tells
 k-test : (c : tie.After-is-between) → c .is-between .result ≡ between leastSymbols mostSymbols (c .before .args .shape .k)

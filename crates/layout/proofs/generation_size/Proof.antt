@@ -1,13 +1,13 @@
--- `memory::generation_size` meets its contract: the products fit.
+-- `layout::generation_size` meets its contract: the products fit.
 use mathlib.Core.Path.{refl}
 use Prim.Native.Nat.{_*_, _≤_}
 use native.Mathlib.Nat.{mul-le-mul}
 use native.Mathlib.Omega.{arith}
 use Rattle.simplex.specs.Shape.{mostSymbols}
-use Rattle.memory.specs.Shape.{mostGroups, generationSize}
-use Rattle.memory.proofs.Ranges.{scaled}
-use Rattle.memory.proofs.generation_size.Statement.{statement}
-use Rattle.memory.proofs.generation_size.Tie as tie
+use Rattle.layout.specs.Shape.{mostGroups, generationSize}
+use Rattle.layout.proofs.Ranges.{scaled}
+use Rattle.layout.proofs.generation_size.Statement.{statement}
+use Rattle.layout.proofs.generation_size.Tie as tie
 
 packets : (s : tie.Start) → s .args .shape .m * s .args .shape .k ≤ mostGroups * mostSymbols
 packets s = mul-le-mul (s .pre .groups .1) (s .pre .symbols .most)
