@@ -15,6 +15,7 @@ use Rattle.simplex.specs.Limit.{total, readsOf, In, ServedBy}
 use Rattle.simplex.proofs.Banks.{yields}
 use Rattle.simplex.proofs.Limit.{the-limit, fails-yields}
 use Rattle.simplex.proofs.Requests.{length-reads}
+use Rattle.simplex.proofs.Tables.{limit-most}
 use Rattle.audit.specs.Plan.{Pair, opens, opened, isPlan, Serves, pairAt, IsPlan}
 use Rattle.audit.proofs.Reading.{serves-at, sound}
 
@@ -24,11 +25,11 @@ symbol-less : (K i : ℕ) (p : Pair) → Serves K i p → i < K
 symbol-less K i p s =
     lt-of-not-le (λ (h : K ≤ i). omega (arith, xor-lt K (p .a) (p .b) (lt-of-le-ones K (s .first-to)) (lt-of-le-ones K (s .second-to)), pow-mono h))
 
-opens-xor : (a b : ℕ) → xorOfNumbers (opens a b) ≡ bitXor a b
+pub opens-xor : (a b : ℕ) → xorOfNumbers (opens a b) ≡ bitXor a b
 opens-xor a zero = refl
 opens-xor a (suc b) = ap (bitXor a) (xor-zero-r (suc b))
 
-opened-yields : (K P i : ℕ) (p : Pair) → Serves K i p → Yields K P (opened p) i
+pub opened-yields : (K P i : ℕ) (p : Pair) → Serves K i p → Yields K P (opened p) i
 opened-yields K P i p s = yields K P (opened p) i (symbol-less K i p s) (opens-xor (p .a) (p .b) ∙ s .differ)
 
 opens-range : (a b N x : ℕ) → b < a → a ≤ N → In x (opens a b) → (1 ≤ x) × (x ≤ N)
@@ -83,5 +84,5 @@ few K counts pairs h e =
     by-contra (length pairs) mostPairs
     (λ (many : mostPairs < length pairs).
     let more : limitOf K < total counts =
-    omega (arith, sound K counts pairs e .one-each, pow-mono {i = K - 1} {j = mostSymbols - 1} (omega arith)) in
+    omega (arith, sound K counts pairs e .one-each, limit-most K h) in
     absurd (false≢true (sym (limit K counts pairs more) ∙ e)))

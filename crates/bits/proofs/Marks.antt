@@ -73,6 +73,18 @@ pub same-many : (f g : ℕ → Bool) (n : ℕ) → ((i : ℕ) → i < n → f i 
 same-many f g zero h = refl
 same-many f g (suc n) h = rw (same-many f g n (λ i l. h i (omega arith)), h n (omega arith))
 
+pub one-most : (t : Bool) → cond {A = ℕ} t 1 0 ≤ 1
+one-most true = omega arith
+one-most false = omega arith
+
+pub many-most : (test : ℕ → Bool) (n : ℕ) → howMany test n ≤ n
+many-most test zero = omega arith
+many-most test (suc n) = omega (arith, many-most test n, one-most (test n))
+
+pub none-passed : (test : ℕ → Bool) (n : ℕ) → ((i : ℕ) → i < n → test i ≡ false) → howMany test n ≡ 0
+none-passed test zero h = refl
+none-passed test (suc n) h = rw (none-passed test n (λ i l. h i (omega arith)), h n (omega arith))
+
 -- counting further finds no more where nothing passes from n on
 pub none-more : (test : ℕ → Bool) (n w : ℕ) → n ≤ w → ((i : ℕ) → n ≤ i → test i ≡ false) → howMany test w ≡ howMany test n
 none-more test n zero l off = let e : zero ≡ n = omega arith in ap (howMany test) e

@@ -3,3 +3,4 @@ pub mod Xors
 pub mod Cells
 pub mod Turns
 pub mod Steps
+pub mod Each

@@ -1,7 +1,7 @@
 -- Cells. A store is a list of bytes; a cell is what lies at a place of it.
 use mathlib.Core.Logic.{_⊎_}
 use mathlib.Core.List.{List, [], _∷_}
-use Prim.Native.Nat.{ℕ, zero, suc, _+_, _≤_, _<_}
+use Prim.Native.Nat.{ℕ, zero, suc, _+_, _*_, _≤_, _<_}
 use lib.ListN.{take, drop}
 
 -- The cell at index at of the store s: p bytes, or fewer where the store ends.
@@ -14,6 +14,11 @@ put [] at c = []
 put (x ∷ s) (suc at) c = x ∷ put s at c
 put (x ∷ s) zero [] = x ∷ s
 put (x ∷ s) zero (y ∷ c) = y ∷ put s zero c
+
+-- The store s with the parts f 0, f 1, .., f (n - 1), of `size` bytes each, one after the other in the place of its first bytes.
+unfoldable pub putEach : (size : ℕ) → (ℕ → List ℕ) → ℕ → List ℕ → List ℕ
+putEach size f zero s = s
+putEach size f (suc n) s = put (putEach size f n s) (n * size) (f n)
 
 -- Byte i lies outside the cell of p bytes at index at.
 abbrev pub Outside : (p at i : ℕ) → Type 0

@@ -1,9 +1,10 @@
 -- The planner's answer, from what its parts say.
-use mathlib.Core.Path.{_≡_, sym, ap, _∙_, subst}
+use mathlib.Core.Path.{_≡_, refl, sym, ap, _∙_, subst}
 use mathlib.Core.Logic.{_↔_}
 use mathlib.Core.Bool.{true, false}
-use mathlib.Core.List.{List, []}
+use mathlib.Core.List.{List, [], _∷_}
 use Prim.Native.Nat.{ℕ}
+use native.Mathlib.Omega.{arith}
 use borrow.Author.Tests.{le-leb, leb-true}
 use lib.Dec.{leb}
 use lib.ListN.{length}
@@ -13,6 +14,7 @@ use Rattle.refusals.specs.Verdict.{check}
 use Rattle.refusals.proofs.Verdicts.{first-accepted, next-accepted, check-passed}
 use Rattle.simplex.specs.Shape.{mostSymbols, limitOf}
 use Rattle.simplex.specs.Limit.{total}
+use Rattle.audit.specs.declared.Audited.the-variants.{Yes}
 use Rattle.audit.specs.Plan.{Pair, isPlan}
 use Rattle.audit.specs.Audit.{countsRefusal, bytesOf, auditOf}
 use Rattle.audit.proofs.Served.{few}
@@ -23,6 +25,10 @@ use Rattle.plan.specs.Planned.{planRefusal, stored, pairsIf, planAnswer,
 use Rattle.plan.specs.Laws.{WithinLimit}
 use Rattle.plan.proofs.Planning.{is-plan, passes}
 use Rattle.plan.proofs.Storing.{read-back}
+
+no-pairs : (pairs : List Pair) → length pairs ≡ 0 → [] ≡ pairs
+no-pairs [] e = refl
+no-pairs (p ∷ pairs) e = absurd (omega arith)
 
 module _ (K : ℕ) (counts : List ℕ) where
   pub refused : (number place : ℕ) → countsRefusal K counts ≡ Refused number place
@@ -42,6 +48,12 @@ module _ (K : ℕ) (counts : List ℕ) where
     pub within : length counts ≡ mostSymbols → leb (total counts) (limitOf K) ≡ true → WithinLimit K counts
     within n f = record { request = request K counts n e; total-most = leb-true (total counts) (limitOf K) f }
 
+    -- no reads have no pairs
+    pub unasked : WithinLimit K counts → total counts ≡ 0 → record { verdict = Accepted; plan = stored [] } ≡ planAnswer K counts
+    unasked w none =
+        ap (λ (pairs : List Pair). record { verdict = Accepted; plan = stored pairs }) (no-pairs (planOf K counts) (is-plan K counts w .one-each ∙ none))
+        ∙ served (le-leb (total counts) (limitOf K) (w .total-most))
+
   pub exactly : length counts ≡ mostSymbols → (planRefusal K counts ≡ Accepted) ↔ WithinLimit K counts
   unfolding planRefusal
   exactly n = (
@@ -52,6 +64,11 @@ module _ (K : ℕ) (counts : List ℕ) where
     λ w. rw (accepted K counts (w .request), le-leb (total counts) (limitOf K) (w .total-most)),
   )
 
+  pub audited : WithinLimit K counts → auditOf K counts (bytesOf (planOf K counts)) ≡ Yes
+  audited w =
+      says-yes K counts (bytesOf (planOf K counts)) (accepted K counts (w .request)) (even-bytes (planOf K counts))
+      (ap (isPlan K counts) (pairs-bytes (planOf K counts)) ∙ passes K counts w)
+
   -- the plan of an accepted request, read back from its arrays
   pub plan-for : length counts ≡ mostSymbols → planRefusal K counts ≡ Accepted → PlanFor K counts (stored (planOf K counts))
   plan-for n e =
@@ -60,9 +77,7 @@ module _ (K : ℕ) (counts : List ℕ) where
       let fits = few K counts pairs (w .request .symbols .most) (passes K counts w) in
       record {
         reads = is-plan K counts w .one-each;
-        audited = ap (λ (ps : List Pair). auditOf K counts (bytesOf ps)) (read-back pairs fits)
-            ∙ says-yes K counts (bytesOf pairs) (accepted K counts (w .request)) (even-bytes pairs)
-            (ap (isPlan K counts) (pairs-bytes pairs) ∙ passes K counts w);
+        audited = ap (λ (ps : List Pair). auditOf K counts (bytesOf ps)) (read-back pairs fits) ∙ audited w;
       }
 
   -- so an answer that is the definition's has such a plan

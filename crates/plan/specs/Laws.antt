@@ -9,7 +9,8 @@ use Rattle.simplex.specs.Shape.{mostSymbols, limitOf}
 use Rattle.simplex.specs.Limit.{total, readsOf, Servable}
 use Rattle.refusals.specs.declared.Verdict.the-variants.{Accepted}
 use Rattle.audit.specs.Plan.{isPlan}
-use Rattle.audit.specs.Audit.{RequestOf}
+use Rattle.audit.specs.declared.Audited.the-variants.{Yes}
+use Rattle.audit.specs.Audit.{RequestOf, bytesOf, auditOf}
 use Rattle.plan.specs.Renaming.{RenamedPlan}
 use Rattle.plan.specs.Finding.{planOf}
 use Rattle.plan.specs.Planned.{planRefusal}
@@ -20,11 +21,12 @@ pub record WithinLimit (K : ℕ) (counts : List ℕ) : Type 0 where
   pub total-most : total counts ≤ limitOf K
 
 -- exactly: the planner accepts exactly the requests within the limit.
--- valid: what it finds for each of them is a plan.
+-- valid, audited: what it finds for each of them is a plan, and the audit says yes to it.
 -- met: so the reads of each of them can be served: the limit is met.
 -- renaming: from a plan for some counts comes one for all counts that ask no more of each symbol, under any other names of the symbols.
 pub record ThePlanner : Type 0 where
   pub exactly : (K : ℕ) (counts : List ℕ) → length counts ≡ mostSymbols → (planRefusal K counts ≡ Accepted) ↔ WithinLimit K counts
   pub valid : (K : ℕ) (counts : List ℕ) → WithinLimit K counts → isPlan K counts (planOf K counts) ≡ true
+  pub audited : (K : ℕ) (counts : List ℕ) → WithinLimit K counts → auditOf K counts (bytesOf (planOf K counts)) ≡ Yes
   pub met : (K P : ℕ) (counts : List ℕ) → WithinLimit K counts → Servable K P (readsOf counts)
   pub renaming : RenamedPlan

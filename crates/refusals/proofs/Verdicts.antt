@@ -1,6 +1,6 @@
 -- What a verdict tells: accepted, every check of it is passed; refused, one is not, and those before it are.
 use mathlib.Core.Path.{_≡_, refl, sym, ap, _∙_}
-use mathlib.Core.Logic.{_⊎_, inl, inr, ⊎-elim, _↔_}
+use mathlib.Core.Logic.{_≢_, _⊎_, inl, inr, ⊎-elim, _↔_}
 use mathlib.Core.Bool.{Bool, true, false, _&&_, false≢true}
 use Prim.Native.Nat.{ℕ, zero, suc, _≤_, _<_}
 use native.Mathlib.Nat.{eq-or-lt-of-le, le-of-suc-le-suc}
@@ -11,7 +11,7 @@ use Rattle.refusals.specs.declared.Verdict.{Verdict}
 use Rattle.refusals.specs.declared.Verdict.the-variants.{Accepted, Refused}
 use Rattle.refusals.specs.Verdict.{between, check, _then_, passed, first}
 
-not-accepted : {A : Type 0} (number place : ℕ) → Refused number place ≡ Accepted → A
+pub not-accepted : {A : Type 0} (number place : ℕ) → Refused number place ≡ Accepted → A
 not-accepted number place e = absurd (let z : _≡_ {A = ℕ} 0 1 = cc in omega arith)
 
 pub first-accepted : (v next : Verdict) → (v then next) ≡ Accepted → v ≡ Accepted
@@ -51,6 +51,15 @@ check-refused number place false n p e = (cc, cc, refl)
 -- ---- the first refusal of many
 
 module _ (f : ℕ → Verdict) where
+  -- the first that is refused settles it
+  pub stops : (n i number place : ℕ) → i < n → first f i ≡ Accepted → f i ≡ Refused number place → first f n ≡ Refused number place
+  stops zero i number place l e r = absurd (omega arith)
+  stops (suc n) i number place l e r =
+      ⊎-elim
+      (λ (same : i ≡ n). rw (← same, e, r))
+      (λ (less : i < n). rw (stops n i number place less e r))
+      (eq-or-lt-of-le (le-of-suc-le-suc l))
+
   pub all-accepted : (n : ℕ) → first f n ≡ Accepted → (i : ℕ) → i < n → f i ≡ Accepted
   all-accepted zero e i l = absurd (omega arith)
   all-accepted (suc n) e i l =
@@ -63,15 +72,6 @@ module _ (f : ℕ → Verdict) where
   accepted-all zero h = refl
   accepted-all (suc n) h = accepted-then (first f n) (f n) (accepted-all n (λ i l. h i (omega arith))) (h n (omega arith))
 
-  -- the first that is refused settles it
-  pub stops : (n i number place : ℕ) → i < n → first f i ≡ Accepted → f i ≡ Refused number place → first f n ≡ Refused number place
-  stops zero i number place l e r = absurd (omega arith)
-  stops (suc n) i number place l e r =
-      ⊎-elim
-      (λ (same : i ≡ n). rw (← same, e, r))
-      (λ (less : i < n). rw (stops n i number place less e r))
-      (eq-or-lt-of-le (le-of-suc-le-suc l))
-
   -- a refusal is that of one of them, and those before it are accepted
   pub first-refused : (n number place : ℕ) → first f n ≡ Refused number place
       → (i : ℕ) × (i < n) × (f i ≡ Refused number place) × ((j : ℕ) → j < i → f j ≡ Accepted)
@@ -81,6 +81,25 @@ module _ (f : ℕ → Verdict) where
       (λ r. let t = first-refused n number place r in (t .0, omega (arith, t .1), t .2, t .3))
       (λ r. (n, omega arith, r .1, all-accepted n (r .0)))
       (then-refused (first f n) (f n) number place e)
+
+-- ---- a number that is not among those of its checks
+
+abbrev pub Never : ℕ → Verdict → Type 0
+Never number v = (place : ℕ) → v ≡ Refused number place → ⊥
+
+pub never-check : (number n place : ℕ) (test : Bool) → n ≢ number → Never number (check n place test)
+never-check number n place test ne p e = ne (check-refused n place test number p e .0)
+
+pub never-then : (number : ℕ) (v next : Verdict) → Never number v → Never number next → Never number (v then next)
+never-then number v next a b place e = ⊎-elim (a place) (λ r. b place (r .1)) (then-refused v next number place e)
+
+pub never-first : (number : ℕ) (f : ℕ → Verdict) (n : ℕ) → ((i : ℕ) → Never number (f i)) → Never number (first f n)
+never-first number f n h place e = let t = first-refused f n number place e in h (t .0) place (t .2)
+
+-- so the refusal is that of what comes after it
+pub skips : (number : ℕ) (v next : Verdict) (place : ℕ) → Never number v → (v then next) ≡ Refused number place
+    → (v ≡ Accepted) × (next ≡ Refused number place)
+skips number v next place never e = ⊎-elim (λ r. absurd (never place r)) (λ r. r) (then-refused v next number place e)
 
 pub first-same : (f g : ℕ → Verdict) (n : ℕ) → ((i : ℕ) → i < n → f i ≡ g i) → first f n ≡ first g n
 first-same f g zero h = refl

@@ -2,12 +2,14 @@
 use mathlib.Core.Path.{_≡_, _∙_, ap, subst, sym}
 use mathlib.Core.Bool.{Bool, true, false, _&&_}
 use mathlib.Core.List.{List, [], _∷_}
-use Prim.Native.Nat.{ℕ, zero, suc, _+_, _<_}
+use Prim.Native.Nat.{ℕ, zero, suc, _+_, _-_, _≤_, _<_}
 use native.Mathlib.Nat.{add-zero, zero-add, add-suc, suc-add, le-of-suc-le-suc, not-suc-le-zero}
+use native.Mathlib.Omega.{arith}
 use lib.Dec.{T}
 use lib.ListN.{length, getD}
+use lib.Pow.{pow-mono}
 use Rattle.simplex.specs.declared.Group.{Group}
-use Rattle.simplex.specs.Shape.{banksOf, groupOf}
+use Rattle.simplex.specs.Shape.{mostSymbols, banksOf, limitOf, mostPairs, groupOf}
 
 pub and-left : (a b : Bool) → T (a && b) → T a
 and-left true b t = tt
@@ -34,6 +36,9 @@ module _ {A : Type 0} (f : ℕ → A → Bool) (d : A) where
   at-index xs t k h = subst (λ (m : ℕ). T (f m (getD xs k d))) (zero-add k) (from xs 0 t k h)
 
 -- ---- the fixed table
+
+pub limit-most : (K : ℕ) → K ≤ mostSymbols → limitOf K ≤ mostPairs
+limit-most K h = pow-mono {i = K - 1} {j = mostSymbols - 1} (omega arith)
 
 pub banks-of : (K : ℕ) {row : Group} → row ≡ groupOf K → row .banks ≡ banksOf K
 banks-of K e = ap (λ (g : Group). g .banks) e

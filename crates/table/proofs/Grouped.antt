@@ -1,10 +1,11 @@
 -- A list that is put together symbol by symbol: how long it is, and what stands in it.
-use mathlib.Core.Path.{_≡_, refl, ap, ap₂, _∙_}
+use mathlib.Core.Path.{_≡_, refl, sym, ap, ap₂, _∙_}
 use mathlib.Core.List.{List, [], _∷_}
 use Prim.Native.Nat.{ℕ, zero, suc, _+_, _<_}
-use native.Mathlib.Nat.{le-of-suc-le-suc, not-suc-le-zero}
+use native.Mathlib.Nat.{le-of-suc-le-suc, not-suc-le-zero, zero-add}
 use native.Mathlib.Omega.{arith}
 use lib.ListN.{length, getD, length-append}
+use lib.Seq.{ext-getD}
 use Rattle.simplex.specs.Limit.{total}
 use Rattle.audit.specs.Plan.{Pair, noPair, start, pairAt}
 use Rattle.table.specs.Grouped.{listOf, grouped}
@@ -20,6 +21,14 @@ pub of-at : {A : Type 0} (f : ℕ → A) (j n m : ℕ) (d : A) → m < n → get
 of-at f j zero m d h = absurd (not-suc-le-zero h)
 of-at f j (suc n) zero d h = ap f (omega arith)
 of-at f j (suc n) (suc m) d h = of-at f (suc j) n m d (le-of-suc-le-suc h) ∙ ap f (omega arith)
+
+-- a list with these elements
+pub list-is : (f : ℕ → ℕ) (n : ℕ) (xs : List ℕ) → length xs ≡ n → ((j : ℕ) → j < n → getD xs j 0 ≡ f j) → xs ≡ listOf f 0 n
+list-is f n xs size each =
+    ext-getD 0 xs (listOf f 0 n) (size ∙ sym (length-of f 0 n))
+    (λ j l.
+    let less : j < n = omega (arith, l, size) in
+    each j less ∙ ap f (sym (zero-add j)) ∙ sym (of-at f 0 n j 0 less))
 
 -- ---- the pairs f i j
 

@@ -1,6 +1,6 @@
 -- `bits::count` meets its contract: the ones of a word are the marks below 64.
 use native.Mathlib.Omega.{arith}
-use lib.Count.{ones, ones-le}
+use lib.Count.{ones-le}
 use Rattle.bits.proofs.Marks.{ones-are}
 use Rattle.bits.proofs.count.Statement.{statement}
 use Rattle.bits.proofs.count.Tie as tie
