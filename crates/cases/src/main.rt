@@ -1,12 +1,15 @@
 // Plans requests, and audits the plans. First the requests of standard input, one a line: K and five counts, with a space between. (Other
 // characters than digits, spaces and the line feed that ends a line are passed over.) Then every request there is, of every K, that totals at most
-// one read more than the limit.
+// one read more than the limit. Last, read cycles of a memory at each K, served and refused, as cycles.rt says.
 //
 // What the stored output should be was worked out by other means. With L = 2^(K-1), C(L+K, K) requests total at most L and ask K * C(L+K, K+1)
 // reads, and C(L+K, K-1) total L + 1. tools/cases.py computes these, and judges each plan and refusal of the first part by the words of the rules:
 // which plan a request gets is free. All plans but that of no reads have a first pair.
 ghost use Prim.Native.Nat.{_≤_, _<_};
 ghost use Rattle.simplex.specs.Shape.{mostSymbols, mostPairs};
+
+mod cycles;
+
 use audit::Audited;
 use libc::STDIN_FILENO;
 use libc::STDOUT_FILENO;
@@ -32,11 +35,11 @@ struct Line {
     at: usize,
 }
 
-fn text(t: &[u8]) {
+pub fn text(t: &[u8]) {
     io::write_all(STDOUT_FILENO, t);
 }
 
-fn number(n: u64) {
+pub fn number(n: u64) {
     io::print_decimal(STDOUT_FILENO, n);
 }
 
@@ -304,4 +307,8 @@ fn main() {
     run(3, 4, 216);
     run(4, 8, 10_000);
     run(5, 16, 1_889_568);
+    cycles::run(2, 2, 3);
+    cycles::run(3, 4, 7);
+    cycles::run(4, 8, 15);
+    cycles::run(5, 16, 31);
 }

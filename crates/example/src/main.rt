@@ -1,5 +1,5 @@
-// A memory of one group and two rows: four packets written to a row, spread over fifteen banks, and eight reads of them, two of each packet, every
-// bank opened once.
+// A memory of one group and two rows: four packets written to a row, spread over fifteen banks, and a cycle of eight reads of them, two of each
+// packet, every bank opened once. With a ninth read a cycle is refused.
 ghost use mathlib.Core.Path.{_≡_};
 ghost use Prim.Native.Nat.{_+_, _*_, _≤_};
 ghost use lib.ListN.{length};
@@ -8,7 +8,7 @@ use memory::Answer;
 use memory::Outcome;
 use memory::State;
 
-// The symbols of the group, the bytes of a packet, the rows, and the row that is written.
+// The symbols of the group, the bytes of a packet, the rows, the row that is written, and the most reads in a cycle.
 const K: usize = 4;
 
 const P: usize = 5;
@@ -16,6 +16,8 @@ const P: usize = 5;
 const G: usize = 2;
 
 const ROW: usize = 1;
+
+const READS: usize = 8;
 
 fn text(t: &[u8]) {
     io::write_all(STDOUT_FILENO, t);
@@ -52,6 +54,9 @@ fn print_answer(outcome: Outcome) {
             text(b"full rows ");
             number(rows);
         }
+        Answer::Served => {
+            text(b"served");
+        }
         Answer::Refused(reason, _) => {
             text(b"refused with ");
             number(reason as usize);
@@ -84,35 +89,69 @@ fn print_banks(store: &[u8])
     }
 }
 
-// The packet that banks `a` and `b` give; where `b` is 0, that of bank `a` alone.
-fn packet(store: &[u8], a: usize, b: usize) -> [u8; 5]
-    requires { ⌜ (length (now store) ≡ 150) × (1 ≤ a) × (a ≤ 15) × (b ≤ 15) ⌝ }
-{
-    let mut out = [0u8; 5];
-    let at = place(a);
-    if b == 0 {
-        cells::copy_into(&mut out, 0, &store[at..at + P]);
-    } else {
-        cells::xor_cells(&mut out, 0, store, at, place(b), P);
-    }
-    out
-}
-
-fn print_read(store: &[u8], symbol: usize, a: usize, b: usize)
-    requires { ⌜ (length (now store) ≡ 150) × (1 ≤ a) × (a ≤ 15) × (b ≤ 15) ⌝ }
-{
-    let out = packet(store, a, b);
+fn print_read(symbol: u8, a: u8, b: u8, packet: &[u8]) {
     text(b"packet ");
-    number(symbol);
+    number(symbol as usize);
     text(b" from bank ");
-    number(a);
+    number(a as usize);
     if b != 0 {
         text(b" and bank ");
-        number(b);
+        number(b as usize);
     }
     text(b": ");
-    text(&out);
+    text(packet);
     text(b"\n");
+}
+
+// What a cycle put out for its reads, and the banks that it opened for each.
+fn print_reads(list: &[u8], out: &[u8], schedule: &[u8])
+    requires { ⌜ (length (now list) ≡ 24) × (length (now out) ≡ 40) × (length (now schedule) ≡ 16) ⌝ }
+{
+    for n in 0..READS {
+        print_read(
+            list[3 * n + 2],
+            schedule[2 * n],
+            schedule[2 * n + 1],
+            &out[P * n..P * n + P],
+        );
+    }
+}
+
+// Reads a list in one cycle, and prints the answer.
+fn read(state: State, store: &[u8], list: &[u8], out: &mut [u8], schedule: &mut [u8]) {
+    text(b"cycle of ");
+    number(list.len() / 3);
+    text(b" reads: ");
+    print_answer(state.read_cycle(store, list, out, schedule));
+}
+
+// A cycle of eight reads: what it puts out.
+fn print_cycle(state: State, store: &[u8], list: &[u8])
+    requires { ⌜ length (now list) ≡ 24 ⌝ }
+{
+    let mut out = [0u8; P * READS];
+    let mut schedule = [0u8; 2 * READS];
+    read(state, store, list, &mut out, &mut schedule);
+    print_reads(list, &out, &schedule);
+}
+
+// Nine reads of the row, three bytes each (row, group, symbol): two of each packet, and packet 0 once more.
+fn nine_reads() -> [u8; 3 * (READS + 1)] {
+    let mut list = [0u8; 3 * (READS + 1)];
+    for n in 0..READS + 1 {
+        list[3 * n] = ROW as u8;
+        list[3 * n + 2] = (n / 2 % K) as u8;
+    }
+    list
+}
+
+// The first eight of them, and all.
+fn print_cycles(state: State, store: &[u8]) {
+    let list = nine_reads();
+    let mut out = [0u8; P * (READS + 1)];
+    let mut schedule = [0u8; 2 * (READS + 1)];
+    print_cycle(state, store, &list[..3 * READS]);
+    read(state, store, &list, &mut out, &mut schedule);
 }
 
 fn main() {
@@ -133,14 +172,7 @@ fn main() {
     print_answer(again);
     let store: &[u8] = &space;
     print_banks(store);
-    print_read(store, 0, 5, 4);
-    print_read(store, 0, 13, 12);
-    print_read(store, 1, 3, 1);
-    print_read(store, 1, 11, 9);
-    print_read(store, 2, 6, 2);
-    print_read(store, 2, 14, 10);
-    print_read(store, 3, 8, 0);
-    print_read(store, 3, 15, 7);
+    print_cycles(again.state, store);
     let released = again.state.release(ROW);
     text(b"release of row 1: ");
     print_answer(released);

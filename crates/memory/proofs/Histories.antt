@@ -3,7 +3,7 @@ use mathlib.Core.Path.{_≡_, refl, sym, ap, _∙_}
 use mathlib.Core.Logic.{_≢_}
 use mathlib.Core.Bool.{Bool, true, false, cond, false≢true}
 use mathlib.Core.List.{List, [], _∷_}
-use Prim.Native.Nat.{ℕ, _+_, zero-le}
+use Prim.Native.Nat.{ℕ, _+_, _*_, _<_, zero-le}
 use native.Mathlib.Omega.{arith}
 use native.Mathlib.Decide.{ℕ-discrete}
 use borrow.Author.Tests.{eq-eqb, ne-eqb}
@@ -14,21 +14,29 @@ use Rattle.bits.proofs.Marks.{none-marked, same-many, none-more}
 use Rattle.refusals.specs.declared.Verdict.{Verdict}
 use Rattle.refusals.specs.declared.Verdict.the-variants.{Accepted, Refused}
 use Rattle.refusals.specs.Verdict.{ifRefused}
+use Rattle.cells.specs.Cell.{cell}
 use Rattle.simplex.specs.Code.{bankCell}
+use Rattle.simplex.proofs.Filling.{length-packets}
+use Rattle.audit.specs.Plan.{opened}
 use Rattle.layout.specs.declared.Shape.{Shape}
+use Rattle.cycle.specs.Reads.{readCount, row, group, symbol}
+use Rattle.cycle.specs.Cycle.{xorOfCells}
+use Rattle.cycle.specs.Served.{line}
+use Rattle.cycle.proofs.Accepted.{judged-alike}
 use Rattle.memory.specs.declared.State.{State}
 use Rattle.memory.specs.declared.Outcome.{Outcome}
-use Rattle.memory.specs.declared.Answer.the-variants.{FullRows}
+use Rattle.memory.specs.declared.Answer.the-variants.{FullRows, Served}
 use Rattle.layout.specs.Shape.{shapeRefusal, storeSize, generationSize, CellOf, cellAt}
 use Rattle.memory.specs.State.{isFull, fullRows, empty, rowTurned, Sound}
-use Rattle.memory.specs.Operations.{answerBy, outcomeBy, packetsIn, rowWritten, writeRefusal, releaseRefusal}
-use Rattle.memory.specs.History.{Operation, write, release, History, Memory, outcomeOf, storeAfter, run}
-use Rattle.memory.specs.History.{verdictIn, fullBy, writtenBy, fullIn, lastWritten, filledBy, emptiedBy, inAll, Remembers, AfterAnyHistory}
+use Rattle.memory.specs.Operations.{answerBy, outcomeBy, packetsIn, packetIn, rowWritten, writeRefusal, releaseRefusal, cycleRefusal, cycleSchedule}
+use Rattle.memory.specs.History.{Operation, write, release, read, History, Memory, outcomeOf, storeAfter, run}
+use Rattle.memory.specs.History.{verdictIn, toldBy, fullBy, writtenBy, fullIn, lastWritten, filledBy, emptiedBy, inAll, Returned, Remembers, AfterAnyHistory}
 use Rattle.layout.proofs.Ranges.{range-words}
 use Rattle.memory.proofs.States.{words-sound}
 use Rattle.memory.proofs.Accepted.{Writable, Releasable, written-facts, released-facts}
 use Rattle.memory.proofs.Turning.{turned-sound, row-filled, row-emptied}
-use Rattle.memory.proofs.Writing.{row-written, other-rows}
+use Rattle.memory.proofs.Writing.{packet-in, packets-in-sized, row-written, other-rows}
+use Rattle.memory.proofs.Cycles.{serves-all, facts, coded-packet}
 
 -- ---- what every operation keeps
 
@@ -48,20 +56,22 @@ record Keeps (sh : Shape) (full : ℕ → Bool) (last : ℕ → List ℕ) (st : 
 record Done (sh : Shape) (full : ℕ → Bool) (last : ℕ → List ℕ) (v : Verdict) (before : State) (operation : Operation) (outcome : Outcome)
     (s : List ℕ) : Type 0 where
   keeps : Keeps sh full last (outcome .state) s
-  answer : outcome .answer ≡ answerBy (howMany full (sh .g)) v
+  answer : outcome .answer ≡ answerBy (toldBy operation (howMany full (sh .g))) v
   count : fullRows (outcome .state) + ifRefused 0 (emptiedBy operation) v ≡ ifRefused 0 (filledBy operation) v + fullRows before
 
 empty-row : {sh : Shape} {st : State} {s : List ℕ} {r : ℕ} {last : List ℕ} → isFull st r ≡ false → Row sh st s r false last
 empty-row e = record { mark = e; whole = λ f. absurd (false≢true f); cells = λ x b c f. absurd (false≢true f) }
 
+-- a write or a release: it tells the number of full rows
 accepted : {sh : Shape} {full : ℕ → Bool} {last : ℕ → List ℕ} {after : State} {s : List ℕ} (before : State) (operation : Operation)
-    → Keeps sh full last after s → fullRows after + emptiedBy operation ≡ filledBy operation + fullRows before
+    → ((rows : ℕ) → FullRows rows ≡ toldBy operation rows) → Keeps sh full last after s → fullRows after + emptiedBy operation ≡ filledBy operation + fullRows before
     → Done sh full last Accepted before operation (outcomeBy before after Accepted) s
-accepted {full = full} {after = after} before operation k count = record {
+accepted {sh = sh} {full = full} {after = after} before operation told k count = record {
   keeps = k;
   count = count;
   answer = ap FullRows
-      (same-many (isFull after) full (after .shape .g) (λ r _. k .rows r .mark) ∙ ap (λ (sh : Shape). howMany full (sh .g)) (k .shape));
+      (same-many (isFull after) full (after .shape .g) (λ r _. k .rows r .mark) ∙ ap (λ (sh : Shape). howMany full (sh .g)) (k .shape))
+      ∙ told (howMany full (sh .g));
 }
 
 -- what is so of one row, and of each other
@@ -106,7 +116,7 @@ module _ (st : State) (s : List ℕ) (full : ℕ → Bool) (last : ℕ → List 
         (outcomeBy st (rowTurned st row) v) (ifRefused s (rowWritten (st .shape) row generation s) v)
     write-by Accepted e =
         let w = written-facts st (length s) row (length generation) e in
-        accepted st (write row generation) (write-keeps w) (omega (arith, row-filled st row (w .below) (w .empty) .count))
+        accepted st (write row generation) (λ rows. refl) (write-keeps w) (omega (arith, row-filled st row (w .below) (w .empty) .count))
     write-by (Refused number place) e = record { keeps = kept; answer = refl; count = omega arith }
 
   -- ---- a release
@@ -132,8 +142,46 @@ module _ (st : State) (s : List ℕ) (full : ℕ → Bool) (last : ℕ → List 
       (outcomeBy st (rowTurned st row) v) s
   release-by Accepted e =
       let w = released-facts st row e in
-      accepted st (release row) (release-keeps w) (omega (arith, row-emptied st row (w .below) (w .full) .count))
+      accepted st (release row) (λ rows. refl) (release-keeps w) (omega (arith, row-emptied st row (w .below) (w .full) .count))
   release-by (Refused number place) e = record { keeps = kept; answer = refl; count = omega arith }
+
+-- ---- a read cycle
+
+module _ (st : State) (s : List ℕ) (full : ℕ → Bool) (last : ℕ → List ℕ) (kept : Keeps (st .shape) full last st s) (reads out schedule : List ℕ) where
+  read-judged : cycleRefusal st (length s) reads (length out) (length schedule) ≡ verdictIn (st .shape) full (read reads out schedule)
+  unfolding cycleRefusal
+  read-judged = rw (
+    words-sound st (kept .sound),
+    eq-eqb _ _ (kept .size),
+    judged-alike (st .shape) (isFull st) full reads (length out) (length schedule) (λ r. kept .rows r .mark),
+  )
+
+  read-by : (v : Verdict)
+      → Done (st .shape) (ifRefused full (fullBy (read reads out schedule) full) v) (ifRefused last (writtenBy (read reads out schedule) last) v) v st
+      (read reads out schedule) (record { state = st; answer = answerBy Served v }) s
+  read-by Accepted = record { keeps = kept; answer = refl; count = omega arith }
+  read-by (Refused number place) = record { keeps = kept; answer = refl; count = omega arith }
+
+  -- each read brings what was last written to its row
+  returned : answerBy Served (cycleRefusal st (length s) reads (length out) (length schedule)) ≡ Served → (n : ℕ) → n < readCount reads
+      → (full (row reads n) ≡ true)
+      × Returned (st .shape) (record { state = st; store = s }) reads out schedule n (last (row reads n))
+  returned e n l =
+      let f = facts st s reads out schedule e in
+      let sh = st .shape in
+      let x = group reads n in
+      let r = row reads n in
+      let in-row = f .list .named n l in
+      let on : full r ≡ true = sym (kept .rows r .mark) ∙ f .list .rows-full n l in
+      let whole = kept .rows r .whole on in
+      let served = serves-all st s reads out schedule f .each n l in
+      let many = length-packets (sh .p) (sh .k) (cell (last r) (x * (sh .k * sh .p)) (sh .k * sh .p)) in
+      let decoded : xorOfCells sh s x r (opened (line (cycleSchedule st s reads out schedule) n)) ≡ packetIn sh (last r) x (symbol reads n) =
+      coded-packet sh s x r (packetsIn sh (last r) x) (packets-in-sized sh (last r) x (in-row .1) whole)
+      (λ b low high. kept .rows r .cells x b (record { group = in-row .1; first = low; last = high; row = in-row .0 }) on)
+      (symbol reads n) _ (omega (arith, many, in-row .2)) (served .pair)
+      ∙ packet-in sh (last r) x (symbol reads n) (in-row .2) in
+      (on, record { packet = served .packet ∙ decoded; banks = decoded })
 
 -- ---- every operation
 
@@ -153,10 +201,18 @@ by-operation history memory k (write row generation) =
 by-operation history memory k (release row) =
     let judged = release-judged (memory .state) (memory .store) _ _ k row in
     rw judged (release-by (memory .state) (memory .store) _ _ k row _ judged)
+by-operation history memory k (read reads out schedule) =
+    rw (read-judged (memory .state) (memory .store) _ _ k reads out schedule) (read-by (memory .state) (memory .store) _ _ k reads out schedule _)
 
 -- the state's shape is the one of set-up
 follows : (sh : Shape) (history : History) (memory : Memory) → Agrees sh history memory → (operation : Operation) → Follows sh history memory operation
 follows sh history memory k operation = rw (← k .shape) (by-operation history memory (rw (← k .shape) at k) operation)
+
+returns : (sh : Shape) (history : History) (memory : Memory) → Agrees sh history memory → (reads out schedule : List ℕ)
+    → outcomeOf memory (read reads out schedule) .answer ≡ Served → (n : ℕ) → n < readCount reads
+    → (fullIn sh history (row reads n) ≡ true) × Returned sh memory reads out schedule n (lastWritten sh history (row reads n))
+returns sh history memory k reads out schedule =
+    rw (← k .shape) (returned (memory .state) (memory .store) _ _ (rw (← k .shape) at k) reads out schedule)
 
 -- ---- every history
 
@@ -193,6 +249,7 @@ remembers sh history memory k count = record {
   whole = λ r. k .rows r .whole;
   cells = λ x b r. k .rows r .cells x b;
   answers = λ operation. follows sh history memory k operation .answer;
+  returns = returns sh history memory k;
 }
 
 pub after-any-history : AfterAnyHistory

@@ -4,4 +4,5 @@ pub mod Accepted
 pub mod Turning
 pub mod Writing
 pub mod Groups
+pub mod Cycles
 pub mod Histories

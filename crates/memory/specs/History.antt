@@ -2,31 +2,40 @@
 use mathlib.Core.Path.{_≡_}
 use mathlib.Core.Bool.{Bool, true, false, cond, not}
 use mathlib.Core.List.{List, [], _∷_}
-use Prim.Native.Nat.{ℕ, _+_}
+use Prim.Native.Nat.{ℕ, _+_, _*_, _<_}
 use lib.Dec.{eqb, ltb}
 use lib.ListN.{length}
 use Rattle.bits.specs.Marks.{howMany}
 use Rattle.refusals.specs.declared.Verdict.{Verdict}
 use Rattle.refusals.specs.declared.Verdict.the-variants.{Accepted}
 use Rattle.refusals.specs.Verdict.{check, _then_, ifRefused}
+use Rattle.cells.specs.Cell.{cell}
 use Rattle.simplex.specs.Code.{bankCell}
+use Rattle.audit.specs.Plan.{opened}
 use Rattle.layout.specs.declared.Shape.{Shape}
 use Rattle.memory.specs.declared.State.{State}
 use Rattle.memory.specs.declared.Outcome.{Outcome}
+use Rattle.memory.specs.declared.Answer.{Answer}
+use Rattle.memory.specs.declared.Answer.the-variants.{FullRows, Served}
 use Rattle.layout.specs.Shape.{storeSize, generationSize, CellOf, cellAt}
+use Rattle.cycle.specs.Reads.{readCount, row, group, symbol}
+use Rattle.cycle.specs.Cycle.{listRefusal, xorOfCells}
+use Rattle.cycle.specs.Served.{line}
 use Rattle.memory.specs.State.{isFull, fullRows, Sound}
-use Rattle.memory.specs.Operations.{setUpOf, answerBy, packetsIn, writeOutcome, writeStore, releaseOutcome}
+use Rattle.memory.specs.Operations.{setUpOf, answerBy, packetsIn, packetIn, writeOutcome, writeStore, releaseOutcome, cycleOutcome, cycleOutput, cycleSchedule}
 
--- What may be asked of a memory: a write of a generation to a row, a release of a row.
+-- What may be asked of a memory: a write of a generation to a row, a release of a row, a read cycle with its list and its buffers.
 pub data Operation : Type 0 where
   write : (row : ℕ) (generation : List ℕ) → Operation
   release : (row : ℕ) → Operation
+  read : (reads out schedule : List ℕ) → Operation
 
 -- The operations since set-up, the last one first.
 abbrev pub History : Type 0
 History = List Operation
 
--- ---- what a memory does, by the definitions that the operations' promises cite. A release is lent no store.
+-- ---- what a memory does, by the definitions that the operations' promises cite. A release is lent no store, and a
+-- read cycle only for reading: neither can change it.
 
 pub record Memory : Type 0 where
   pub state : State
@@ -35,10 +44,12 @@ pub record Memory : Type 0 where
 abbrev pub outcomeOf : Memory → Operation → Outcome
 outcomeOf memory (write row generation) = writeOutcome (memory .state) (length (memory .store)) row (length generation)
 outcomeOf memory (release row) = releaseOutcome (memory .state) row
+outcomeOf memory (read reads out schedule) = cycleOutcome (memory .state) (length (memory .store)) reads (length out) (length schedule)
 
 abbrev pub storeAfter : Memory → Operation → List ℕ
 storeAfter memory (write row generation) = writeStore (memory .state) (memory .store) row generation
 storeAfter memory (release row) = memory .store
+storeAfter memory (read reads out schedule) = memory .store
 
 abbrev pub step : Memory → Operation → Memory
 step memory operation = record { state = outcomeOf memory operation .state; store = storeAfter memory operation }
@@ -54,17 +65,26 @@ abbrev pub verdictIn : Shape → (ℕ → Bool) → Operation → Verdict
 verdictIn sh full (write row generation) =
     check 7 0 (ltb row (sh .g)) then check 8 0 (not (full row)) then check 10 0 (eqb (length generation) (generationSize sh))
 verdictIn sh full (release row) = check 7 0 (ltb row (sh .g)) then check 9 0 (full row)
+verdictIn sh full (read reads out schedule) = listRefusal sh full reads (length out) (length schedule)
+
+-- What an accepted operation tells, with this number of full rows.
+abbrev pub toldBy : Operation → ℕ → Answer
+toldBy (write row generation) rows = FullRows rows
+toldBy (release row) rows = FullRows rows
+toldBy (read reads out schedule) rows = Served
 
 -- The full rows after an accepted operation, and what was then last written to each.
 abbrev pub fullBy : Operation → (ℕ → Bool) → ℕ → Bool
 fullBy (write row generation) full r = cond (eqb row r) true (full r)
 fullBy (release row) full r = cond (eqb row r) false (full r)
+fullBy (read reads out schedule) full r = full r
 
 abbrev pub writtenBy : Operation → (ℕ → List ℕ) → ℕ → List ℕ
 writtenBy (write row generation) last r = cond (eqb row r) generation (last r)
 writtenBy (release row) last r = last r
+writtenBy (read reads out schedule) last r = last r
 
--- Row r is full: of the accepted operations on it, the last was a write.
+-- Row r is full: of the accepted writes and releases of it, the last was a write.
 abbrev pub fullIn : Shape → History → ℕ → Bool
 fullIn sh [] = λ r. false
 fullIn sh (operation ∷ history) = ifRefused (fullIn sh history) (fullBy operation (fullIn sh history)) (verdictIn sh (fullIn sh history) operation)
@@ -79,10 +99,12 @@ lastWritten sh (operation ∷ history) =
 abbrev pub filledBy : Operation → ℕ
 filledBy (write row generation) = 1
 filledBy (release row) = 0
+filledBy (read reads out schedule) = 0
 
 abbrev pub emptiedBy : Operation → ℕ
 emptiedBy (write row generation) = 0
 emptiedBy (release row) = 1
+emptiedBy (read reads out schedule) = 0
 
 -- How many all accepted operations of a history did.
 abbrev pub inAll : (Operation → ℕ) → Shape → History → ℕ
@@ -91,10 +113,20 @@ inAll rows sh (operation ∷ history) = ifRefused 0 (rows operation) (verdictIn 
 
 -- ---- how the two agree
 
+-- What read n of a list that is served brings, where `last` is the generation last written to its row. packet: the output holds in its place the
+-- packet that was written there. banks: the banks on its line of the schedule XOR, in the store, to that packet.
+pub record Returned (sh : Shape) (memory : Memory) (reads out schedule : List ℕ) (n : ℕ) (last : List ℕ) : Type 0 where
+  pub packet : cell (cycleOutput (memory .state) (memory .store) reads out schedule) (n * sh .p) (sh .p)
+      ≡ packetIn sh last (group reads n) (symbol reads n)
+  pub banks : xorOfCells sh (memory .store) (group reads n) (row reads n)
+      (opened (line (cycleSchedule (memory .state) (memory .store) reads out schedule) n))
+      ≡ packetIn sh last (group reads n) (symbol reads n)
+
 -- shape, sound, size: the shape is that of set-up, the state is not broken, and the store has its length.
 -- marks, count: the rows that are full are those of the history, and as many as accepted writes less accepted releases.
 -- cells, whole: every cell of a full row is what the code puts there for the generation last written, which has the right length.
--- answers: the next operation is refused as the history says; accepted, it answers the number of rows that are full with it.
+-- answers: the next operation is refused as the history says; accepted, a write or a release answers the number of rows that are full with it.
+-- returns: a read cycle that is served returns, in the order asked, the packet last written at each read's row, group and symbol; that row is full.
 pub record Remembers (sh : Shape) (history : History) (memory : Memory) : Type 0 where
   pub shape : memory .state .shape ≡ sh
   pub sound : Sound (memory .state)
@@ -105,7 +137,9 @@ pub record Remembers (sh : Shape) (history : History) (memory : Memory) : Type 0
       → cellAt sh (memory .store) x b r ≡ bankCell (sh .p) (packetsIn sh (lastWritten sh history r) x) b
   pub whole : (r : ℕ) → fullIn sh history r ≡ true → length (lastWritten sh history r) ≡ generationSize sh
   pub answers : (operation : Operation) → outcomeOf memory operation .answer
-      ≡ answerBy (howMany (fullIn sh (operation ∷ history)) (sh .g)) (verdictIn sh (fullIn sh history) operation)
+      ≡ answerBy (toldBy operation (howMany (fullIn sh (operation ∷ history)) (sh .g))) (verdictIn sh (fullIn sh history) operation)
+  pub returns : (reads out schedule : List ℕ) → outcomeOf memory (read reads out schedule) .answer ≡ Served → (n : ℕ) → n < readCount reads
+      → (fullIn sh history (row reads n) ≡ true) × Returned sh memory reads out schedule n (lastWritten sh history (row reads n))
 
 -- So it is after every history, from an accepted set-up and any store of the right length.
 abbrev pub AfterAnyHistory : Type 0

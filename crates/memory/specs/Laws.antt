@@ -3,17 +3,18 @@ use mathlib.Core.Path.{_≡_}
 use mathlib.Core.Logic.{_≢_, _↔_}
 use mathlib.Core.Bool.{true, false}
 use mathlib.Core.List.{List, []}
-use Prim.Native.Nat.{ℕ, suc, _+_, _*_, _<_}
+use Prim.Native.Nat.{ℕ, suc, _<_}
 use lib.ListN.{length, getD}
-use Rattle.refusals.specs.declared.Verdict.the-variants.{Accepted, Refused}
-use Rattle.cells.specs.Cell.{cell, Outside}
+use Rattle.refusals.specs.declared.Verdict.the-variants.{Accepted}
+use Rattle.cells.specs.Cell.{Outside}
 use Rattle.simplex.specs.Code.{bankCell}
 use Rattle.layout.specs.declared.Shape.{Shape}
 use Rattle.memory.specs.declared.State.{State}
+use Rattle.memory.specs.declared.Answer.the-variants.{Refused}
 use Rattle.layout.specs.Shape.{CellOf, offset, cellAt}
 use Rattle.memory.specs.State.{isFull, fullRows, sound, Sound}
-use Rattle.memory.specs.Operations.{packetsIn, writeRefusal, writeOutcome, writeStore, releaseRefusal, releaseOutcome}
-use Rattle.memory.specs.History.{AfterAnyHistory}
+use Rattle.memory.specs.Operations.{packetsIn, packetIn, writeRefusal, writeOutcome, writeStore, releaseRefusal, releaseOutcome}
+use Rattle.memory.specs.History.{Operation, Memory, outcomeOf, AfterAnyHistory}
 
 -- The byte i of the store lies in no cell of this row.
 abbrev pub OutsideRow : Shape → (row i : ℕ) → Type 0
@@ -34,15 +35,16 @@ pub record OneMore (row : ℕ) (fewer more : State) : Type 0 where
   pub others : (r : ℕ) → r ≢ row → isFull more r ≡ isFull fewer r
   pub count : fullRows more ≡ suc (fullRows fewer)
 
--- states: "not broken" in words. broken: a write and a release of any other state are refused with 5.
+-- states: "not broken" in words. broken: any other state is refused with 5, whatever is asked.
 -- packets: packet i of group x stands where a generation with the packets of group 0 in symbol order, then group 1, and so on, has it.
 -- written: an accepted write makes its row full and sets the cells of that row alone. released: an accepted release makes a full row empty.
 -- histories: what a memory holds and answers after any operations.
 pub record TheMemory : Type 0 where
   pub states : (st : State) → (sound st ≡ true) ↔ Sound st
-  pub broken : (st : State) → (Sound st → ⊥) → (size row len : ℕ) → (writeRefusal st size row len ≡ Refused 5 0) × (releaseRefusal st row ≡ Refused 5 0)
+  pub broken : (memory : Memory) → (Sound (memory .state) → ⊥) → (operation : Operation)
+      → outcomeOf memory operation ≡ record { state = memory .state; answer = Refused 5 0 }
   pub packets : (sh : Shape) (generation : List ℕ) (x i : ℕ) → i < sh .k
-      → getD (packetsIn sh generation x) i [] ≡ cell generation ((x * sh .k + i) * sh .p) (sh .p)
+      → getD (packetsIn sh generation x) i [] ≡ packetIn sh generation x i
   pub written : (st : State) (s : List ℕ) (row : ℕ) (generation : List ℕ) → writeRefusal st (length s) row (length generation) ≡ Accepted
       → Written (st .shape) row generation s (writeStore st s row generation) × OneMore row st (writeOutcome st (length s) row (length generation) .state)
   pub released : (st : State) (row : ℕ) → releaseRefusal st row ≡ Accepted → OneMore row (releaseOutcome st row .state) st

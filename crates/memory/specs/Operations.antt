@@ -1,7 +1,7 @@
--- Set-up, write and release: when each is refused, what it answers, and what state and store it leaves.
+-- Set-up, write, release and the read cycle: when each is refused, what it answers, and what state, store and buffers it leaves.
 use mathlib.Core.Bool.{not}
 use mathlib.Core.List.{List}
-use Prim.Native.Nat.{ℕ, zero, suc, _*_}
+use Prim.Native.Nat.{ℕ, zero, suc, _+_, _*_}
 use lib.Dec.{eqb, ltb}
 use lib.ListN.{length}
 use Rattle.refusals.specs.declared.Verdict.{Verdict}
@@ -11,11 +11,12 @@ use Rattle.cells.specs.Cell.{cell}
 use Rattle.simplex.specs.Code.{Packet}
 use Rattle.simplex.specs.Filling.{packetsOf, filled}
 use Rattle.layout.specs.declared.Shape.{Shape}
+use Rattle.cycle.specs.Cycle.{listRefusal, packetsOut, linesOut}
 use Rattle.memory.specs.declared.State.{State}
 use Rattle.memory.specs.declared.SetUp.{SetUp}
 use Rattle.memory.specs.declared.Outcome.{Outcome}
 use Rattle.memory.specs.declared.Answer.{Answer}
-use Rattle.memory.specs.declared.Answer.the-variants.{FullRows, Refused as NotDone}
+use Rattle.memory.specs.declared.Answer.the-variants.{FullRows, Served, Refused as NotDone}
 use Rattle.layout.specs.Shape.{shapeRefusal, banks, storeSize, generationSize, offset}
 use Rattle.memory.specs.State.{isFull, fullRows, sound, empty, zeroState, rowTurned}
 
@@ -23,22 +24,25 @@ use Rattle.memory.specs.State.{isFull, fullRows, sound, empty, zeroState
 abbrev pub setUpOf : Shape → SetUp
 setUpOf sh = record { state = ifRefused zeroState (empty sh) (shapeRefusal sh); verdict = shapeRefusal sh }
 
--- An operation's answer: a refusal, or the number of full rows.
-abbrev pub answerBy : ℕ → Verdict → Answer
-answerBy rows Accepted = FullRows rows
-answerBy rows (Refused number place) = NotDone number place
+-- An operation's answer: a refusal, or what it tells where it is accepted.
+abbrev pub answerBy : Answer → Verdict → Answer
+answerBy told Accepted = told
+answerBy told (Refused number place) = NotDone number place
 
--- What an operation gives that makes one state into another: the state as it was where it is refused.
+-- What an operation gives that makes one state into another: the state as it was where it is refused, else the number of full rows.
 abbrev pub outcomeBy : (before after : State) → Verdict → Outcome
-outcomeBy before after verdict = record { state = ifRefused before after verdict; answer = answerBy (fullRows after) verdict }
+outcomeBy before after verdict = record { state = ifRefused before after verdict; answer = answerBy (FullRows (fullRows after)) verdict }
+
+-- Where a store is lent. 5, the state is broken. 6, the store's length is wrong.
+abbrev pub storeRefusal : State → ℕ → Verdict
+storeRefusal st size = check 5 0 (sound st) then check 6 0 (eqb size (storeSize (st .shape)))
 
 -- ---- write
 
--- 5, the state is broken. 6, the store's length is wrong. 7, the row is G or more. 8, the row is full. 10, the generation isn't m·K·P bytes.
+-- 5 and 6. 7, the row is G or more. 8, the row is full. 10, the generation isn't m·K·P bytes.
 unfoldable pub writeRefusal : State → (size row len : ℕ) → Verdict
 writeRefusal st size row len =
-    check 5 0 (sound st)
-    then check 6 0 (eqb size (storeSize (st .shape)))
+    storeRefusal st size
     then check 7 0 (ltb row (st .shape .g))
     then check 8 0 (not (isFull st row))
     then check 10 0 (eqb len (generationSize (st .shape)))
@@ -46,6 +50,10 @@ writeRefusal st size row len =
 -- The packets of group x: a generation has those of group 0 in symbol order, then those of group 1, and so on.
 abbrev pub packetsIn : Shape → List ℕ → ℕ → List Packet
 packetsIn sh generation x = packetsOf (sh .p) (sh .k) (cell generation (x * (sh .k * sh .p)) (sh .k * sh .p))
+
+-- Packet i of group x.
+abbrev pub packetIn : Shape → List ℕ → (x i : ℕ) → Packet
+packetIn sh generation x i = cell generation ((x * sh .k + i) * sh .p) (sh .p)
 
 -- The store s with the cells of all banks of group x in a row put in, for a group of these packets.
 abbrev pub groupWritten : Shape → (x row : ℕ) → List Packet → List ℕ → List ℕ
@@ -74,3 +82,22 @@ releaseRefusal st row = check 5 0 (sound st) then check 7 0 (ltb row (st .shape 
 
 abbrev pub releaseOutcome : State → ℕ → Outcome
 releaseOutcome st row = outcomeBy st (rowTurned st row) (releaseRefusal st row)
+
+-- ---- read cycle
+
+-- 5 and 6. Then the list and the buffers: 13; read by read 7, 14, 15, 9; 12; 16.
+unfoldable pub cycleRefusal : State → (size : ℕ) → List ℕ → (out schedule : ℕ) → Verdict
+cycleRefusal st size reads out schedule = storeRefusal st size then listRefusal (st .shape) (isFull st) reads out schedule
+
+-- The state comes back as it was.
+abbrev pub cycleOutcome : State → (size : ℕ) → List ℕ → (out schedule : ℕ) → Outcome
+cycleOutcome st size reads out schedule = record { state = st; answer = answerBy Served (cycleRefusal st size reads out schedule) }
+
+-- The output and the schedule after it.
+abbrev pub cycleOutput : State → (s reads out schedule : List ℕ) → List ℕ
+cycleOutput st s reads out schedule =
+    ifRefused out (packetsOut (st .shape) s reads out) (cycleRefusal st (length s) reads (length out) (length schedule))
+
+abbrev pub cycleSchedule : State → (s reads out schedule : List ℕ) → List ℕ
+cycleSchedule st s reads out schedule =
+    ifRefused schedule (linesOut (st .shape) reads schedule) (cycleRefusal st (length s) reads (length out) (length schedule))

@@ -1,4 +1,4 @@
-// A memory: its state, and the operations that set it up, write a row and release one.
+// A memory: its state, and the operations that set it up, write a row, release one and read packets.
 ghost use mathlib.Core.Path.{_≡_};
 ghost use mathlib.Core.Bool.{true};
 ghost use Prim.Native.Nat.{_*_, _<_};
@@ -7,7 +7,10 @@ ghost use Rattle.refusals.specs.declared.Verdict.the-variants.{Accepted};
 ghost use Rattle.simplex.specs.Filling.{packetsOf};
 ghost use Rattle.layout.specs.Shape.{InRange, storeSize, generationSize};
 ghost use Rattle.memory.specs.State.{sound, rowTurned};
-ghost use Rattle.memory.specs.Operations.{setUpOf, outcomeBy, writeRefusal, groupWritten, rowWritten, writeOutcome, writeStore, releaseRefusal, releaseOutcome};
+ghost use Rattle.memory.specs.Operations.{setUpOf, outcomeBy, storeRefusal, writeRefusal, groupWritten, rowWritten, writeOutcome, writeStore, releaseRefusal, releaseOutcome, cycleOutcome, cycleOutput, cycleSchedule};
+ghost use Rattle.cycle.specs.Served.{PlansAudited};
+ghost use Rattle.memory.specs.declared.Answer.the-variants.{Served};
+ghost use Rattle.memory.specs.Demand3.{Demand3};
 ghost use Rattle.memory.specs.Laws.{TheMemory};
 use layout::Shape;
 use refusals::Verdict;
@@ -24,13 +27,15 @@ pub struct SetUp {
     pub verdict: Verdict,
 }
 
-// What an operation answers that changes the state or the store: the number of full rows, or a refusal with its number and place.
+// What an operation answers: the number of full rows, if it changes the state or the store; that a read cycle is served; or a refusal with its
+// number and place.
 pub enum Answer {
     FullRows(usize),
+    Served,
     Refused(u8, usize),
 }
 
-// What such an operation gives: the state, and its answer.
+// What an operation gives: the state, and its answer.
 pub struct Outcome {
     pub state: State,
     pub answer: Answer,
@@ -52,15 +57,26 @@ fn is_sound(state: State) -> bool
     bits::none_from(state.full, state.shape.g)
 }
 
-// The refusal of a write: 5, 6, 7, 8, 10.
-fn judge_write(state: State, size: usize, row: usize, len: usize) -> Verdict
-    ensures { λ r. ⌜ r ≡ writeRefusal state size row len ⌝ }
+// The refusal where a store is lent: 5, 6.
+fn judge_store(state: State, size: usize) -> Verdict
+    ensures { λ r. ⌜ r ≡ storeRefusal state size ⌝ }
 {
     if !is_sound(state) {
         return Verdict::Refused(5, 0);
     }
     if size != layout::store_size(state.shape) {
         return Verdict::Refused(6, 0);
+    }
+    Verdict::Accepted
+}
+
+// The refusal of a write: 5, 6, 7, 8, 10.
+fn judge_write(state: State, size: usize, row: usize, len: usize) -> Verdict
+    ensures { λ r. ⌜ r ≡ writeRefusal state size row len ⌝ }
+{
+    let verdict = judge_store(state, size);
+    if let Verdict::Refused(number, place) = verdict {
+        return Verdict::Refused(number, place);
     }
     if state.shape.g <= row {
         return Verdict::Refused(7, 0);
@@ -187,5 +203,41 @@ impl State {
             };
         }
         self.turn_row(row)
+    }
+
+    // Serves a list of reads (01: asks; three bytes each: row, group, symbol) in one cycle: the packets to the output, P bytes each, and the banks
+    // opened for each to the schedule (01: the sheet), two bytes each; or refuses: 5, 6, 13, read by read 7, 14, 15, 9, then 12, 16. The store is lent
+    // for reading only.
+    pub fn read_cycle(
+        self,
+        store: &[u8],
+        reads: &[u8],
+        out: &mut [u8],
+        schedule: &mut [u8],
+    ) -> Outcome
+        ensures outcome { λ r. ⌜ r ≡ cycleOutcome self (length (now (store .entry))) (now (reads .entry)) (length (now (out .entry))) (length (now (schedule .entry))) ⌝ }
+        ensures output { λ _. ⌜ now (out .exit) ≡ cycleOutput self (now (store .entry)) (now (reads .entry)) (now (out .entry)) (now (schedule .entry)) ⌝ }
+        ensures lines { λ _. ⌜ now (schedule .exit) ≡ cycleSchedule self (now (store .entry)) (now (reads .entry)) (now (out .entry)) (now (schedule .entry)) ⌝ }
+        ensures demand3 { λ r. ⌜ Demand3 self (now (store .entry)) (now (reads .entry)) (length (now (out .entry))) (length (now (schedule .entry))) (r .answer) (now (out .exit)) (now (schedule .exit)) ⌝ }
+        ensures plans { λ r. ⌜ (r .answer ≡ Served → PlansAudited (self .shape) (now (reads .entry))) ⌝ }
+    {
+        let lent = judge_store(self, store.len());
+        if let Verdict::Refused(number, place) = lent {
+            return Outcome {
+                state: self,
+                answer: Answer::Refused(number, place),
+            };
+        }
+        let verdict = cycle::run(self.shape, self.full, store, reads, out, schedule);
+        if let Verdict::Refused(number, place) = verdict {
+            return Outcome {
+                state: self,
+                answer: Answer::Refused(number, place),
+            };
+        }
+        Outcome {
+            state: self,
+            answer: Answer::Served,
+        }
     }
 }

@@ -1,86 +1,85 @@
 -- `memory::judge_write` meets its contract: each test in its order.
 use mathlib.Core.Path.{_≡_, sym, _∙_}
-use mathlib.Core.Bool.{true}
 use native.Mathlib.Omega.{arith}
 use borrow.Author.Needs.{needs}
-use borrow.Author.Tests.{not-true, not-false, lt-ltb, le-ltb, eq-eqb, ne-eqb}
+use borrow.Author.Tests.{lt-ltb, le-ltb, eq-eqb, ne-eqb}
 use lib.Dec.{eqb}
+use Rattle.refusals.specs.declared.Verdict.the-variants.{Accepted}
 use Rattle.refusals.specs.Verdict.{check}
-use Rattle.layout.specs.Shape.{storeSize, generationSize}
-use Rattle.memory.specs.State.{sound}
-use Rattle.memory.specs.Operations.{writeRefusal}
+use Rattle.layout.specs.Shape.{InRange, generationSize}
+use Rattle.memory.specs.Operations.{storeRefusal, writeRefusal}
 use Rattle.memory.proofs.States.{sound-words}
+use Rattle.memory.proofs.Accepted.{write-by-store, store-facts}
 use Rattle.memory.proofs.judge_write.Statement.{statement}
 use Rattle.memory.proofs.judge_write.Tie as tie
 
--- past each test
-whole : (c : tie.Else1) → sound (c .before .before .args .state) ≡ true
-whole c = sym (c .before .is-sound .ensures) ∙ not-false _ (c .if1 .left)
+-- the function's entry, from past 5 and 6
+abbrev St : tie.After-enum-told → tie.Start
+St c = c .before .before .before
 
-size : (c : tie.Else2) → c .before .before .before .before .args .size ≡ storeSize (c .before .before .before .before .args .state .shape)
-size c = c .if2 .left ∙ c .before .store-size .ensures
+lent : (c : tie.After-enum-told) → storeRefusal (St c .args .state) (St c .args .size) ≡ Accepted
+lent c = sym (c .before .before .judge-store .ensures) ∙ c .enum-told .given .1
 
-abbrev St : tie.Else4 → tie.Start
-St c = c .before .before .before .before .before .before .before .before
+ranges : (c : tie.After-enum-told) → InRange (St c .args .state .shape)
+ranges c = sound-words _ (store-facts (St c .args .state) (St c .args .size) (lent c) .0) .ranges
 
-past-four : (c : tie.Else4) → writeRefusal (St c .args .state) (St c .args .size) (St c .args .row) (St c .args .len)
-    ≡ check 10 0 (eqb (St c .args .len) (generationSize (St c .args .state .shape)))
+-- and from past each test after them
+abbrev E1 : tie.Else1 → tie.After-enum-told
+E1 c = c .before .before
+
+abbrev E2 : tie.Else2 → tie.Else1
+E2 c = c .before .before
+
+past-two : (c : tie.Else2) → let a = St (E1 (E2 c)) .args in
+    writeRefusal (a .state) (a .size) (a .row) (a .len) ≡ check 10 0 (eqb (a .len) (generationSize (a .state .shape)))
 unfolding writeRefusal
-past-four c =
-    let e3 = c .before .before in
-    let e2 = e3 .before .before in
-    rw (whole (e2 .before .before), eq-eqb _ _ (size e2), lt-ltb _ _ (e3 .if3 .left), sym (c .before .is-marked .ensures) ∙ c .if4 .left)
+past-two c = rw (lent (E1 (E2 c)), lt-ltb _ _ (E2 c .if1 .left), sym (c .before .is-marked .ensures) ∙ c .if2 .left)
 
-is-sound-requires : tie.Need-is-sound-requires
-is-sound-requires c κs = search needs
+judge-store-requires : tie.Need-judge-store-requires
+judge-store-requires c κs = search needs
+
+enum-known-verdict : tie.Need-enum-known-verdict
+enum-known-verdict c = search needs
 
 returns : tie.Need-returns
-unfolding writeRefusal
-returns c = rw (sym (c .before .is-sound .ensures) ∙ not-true _ (c .if1 .taken))
+returns c = write-by-store _ _ _ _ _ _ (sym (c .before .before .before .judge-store .ensures) ∙ c .before .verdict .given .1)
 
-store-size-requires : tie.Need-store-size-requires
-store-size-requires c κs = sound-words _ (whole c) .ranges
+enum-told : tie.Need-enum-told
+enum-told c = search needs
 
 returns-2 : tie.Need-returns-2
 unfolding writeRefusal
-returns-2 c = rw (whole (c .before .before), ne-eqb _ _ (λ e. c .if2 .taken (e ∙ sym (c .before .store-size .ensures))))
+returns-2 c = rw (lent (c .before .before), le-ltb _ _ (c .if1 .taken))
+
+is-marked-requires : tie.Need-is-marked-requires
+is-marked-requires c κs = omega (arith, ranges (E1 c) .rows)
 
 returns-3 : tie.Need-returns-3
 unfolding writeRefusal
-returns-3 c = let e = c .before .before in rw (whole (e .before .before), eq-eqb _ _ (size e), le-ltb _ _ (c .if3 .taken))
-
-is-marked-requires : tie.Need-is-marked-requires
-is-marked-requires c κs = omega (arith, sound-words _ (whole (c .before .before .before .before)) .ranges .rows)
-
-returns-4 : tie.Need-returns-4
-unfolding writeRefusal
-returns-4 c =
-    let e3 = c .before .before in
-    let e2 = e3 .before .before in
-    rw (whole (e2 .before .before), eq-eqb _ _ (size e2), lt-ltb _ _ (e3 .if3 .left), sym (c .before .is-marked .ensures) ∙ c .if4 .taken)
+returns-3 c =
+    let e = c .before .before in
+    rw (lent (E1 e), lt-ltb _ _ (e .if1 .left), sym (c .before .is-marked .ensures) ∙ c .if2 .taken)
 
 generation-size-requires : tie.Need-generation-size-requires
-generation-size-requires c κs = sound-words _ (whole (c .before .before .before .before .before .before)) .ranges
+generation-size-requires c κs = ranges (E1 (E2 c))
+
+returns-4 : tie.Need-returns-4
+returns-4 c = rw (past-two (c .before .before), ne-eqb _ _ (λ e. c .if3 .taken (e ∙ sym (c .before .generation-size .ensures))))
 
 returns-5 : tie.Need-returns-5
-unfolding writeRefusal
-returns-5 c = rw (past-four (c .before .before), ne-eqb _ _ (λ e. c .if5 .taken (e ∙ sym (c .before .generation-size .ensures))))
-
-returns-6 : tie.Need-returns-6
-unfolding writeRefusal
-returns-6 c = rw (past-four (c .before .before), eq-eqb _ _ (c .if5 .left ∙ c .before .generation-size .ensures))
+returns-5 c = rw (past-two (c .before .before), eq-eqb _ _ (c .if3 .left ∙ c .before .generation-size .ensures))
 
 pub judge-write-spec : {M : Type 1} → statement M
 judge-write-spec =
     tie.close
     (tie.spec
-    is-sound-requires
+    judge-store-requires
+    enum-known-verdict
     returns
-    store-size-requires
+    enum-told
     returns-2
-    returns-3
     is-marked-requires
-    returns-4
+    returns-3
     generation-size-requires
-    returns-5
-    returns-6)
+    returns-4
+    returns-5)

@@ -4,10 +4,12 @@ use mathlib.Core.Bool.{Bool, true, false}
 use mathlib.Core.List.{List}
 use Prim.Native.Nat.{ℕ}
 use lib.ListN.{length}
-use Rattle.refusals.specs.declared.Verdict.the-variants.{Accepted, Refused}
+use Rattle.refusals.specs.declared.Verdict.the-variants.{Accepted}
 use Rattle.memory.specs.declared.State.{State}
+use Rattle.memory.specs.declared.Answer.the-variants.{Refused as NotDone}
 use Rattle.memory.specs.State.{sound, Sound}
-use Rattle.memory.specs.Operations.{writeRefusal, writeOutcome, writeStore, releaseRefusal, releaseOutcome}
+use Rattle.memory.specs.Operations.{writeRefusal, writeOutcome, writeStore, releaseRefusal, releaseOutcome, cycleRefusal}
+use Rattle.memory.specs.History.{Operation, write, release, read, Memory, outcomeOf}
 use Rattle.memory.specs.Laws.{Written, OneMore}
 use Rattle.memory.proofs.States.{sound-words, words-sound}
 use Rattle.memory.proofs.Accepted.{written-facts, released-facts}
@@ -21,9 +23,12 @@ not-sound : (st : State) → (Sound st → ⊥) → (t : Bool) → sound st ≡ 
 not-sound st h true e = absurd (h (sound-words st e))
 not-sound st h false e = e
 
-broken : (st : State) → (Sound st → ⊥) → (size row len : ℕ) → (writeRefusal st size row len ≡ Refused 5 0) × (releaseRefusal st row ≡ Refused 5 0)
-unfolding writeRefusal releaseRefusal
-broken st h size row len = let e = not-sound st h (sound st) refl in (rw e, rw e)
+broken : (memory : Memory) → (Sound (memory .state) → ⊥) → (operation : Operation)
+    → outcomeOf memory operation ≡ record { state = memory .state; answer = NotDone 5 0 }
+unfolding writeRefusal releaseRefusal cycleRefusal
+broken memory h (write row generation) = rw (not-sound (memory .state) h (sound (memory .state)) refl)
+broken memory h (release row) = rw (not-sound (memory .state) h (sound (memory .state)) refl)
+broken memory h (read reads out schedule) = rw (not-sound (memory .state) h (sound (memory .state)) refl)
 
 written : (st : State) (s : List ℕ) (row : ℕ) (generation : List ℕ) → writeRefusal st (length s) row (length generation) ≡ Accepted
     → Written (st .shape) row generation s (writeStore st s row generation) × OneMore row st (writeOutcome st (length s) row (length generation) .state)

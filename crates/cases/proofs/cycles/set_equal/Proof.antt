@@ -1,0 +1,48 @@
+-- `cases::cycles::set_equal` stays within the list and ends.
+use mathlib.Core.Path.{_≡_}
+use Prim.Native.Nat.{_/_, _-_, _≤_}
+use borrow.Author.Needs.{needs}
+use lib.ListN.{length}
+use Rattle.cases.proofs.cycles.set_equal.Statement.{statement}
+use Rattle.cases.proofs.cycles.set_equal.Tie as tie
+
+abbrev Inv-loop : tie.InvT-loop
+Inv-loop list₀ n₀ n-end list n = (n ≤ length list₀ / 3) × (length list ≡ length list₀)
+
+abbrev μ-loop : tie.MeasureT-loop
+μ-loop list₀ n₀ n-end list n = length list₀ / 3 - n
+
+loop-holds : tie.Need-loop-holds Inv-loop μ-loop
+loop-holds c = search needs
+
+set-read-requires : tie.Need-set-read-requires Inv-loop μ-loop
+set-read-requires c κs = search needs
+
+add-n : tie.Need-add-n Inv-loop μ-loop
+add-n c = search needs
+
+loop-less : tie.Need-loop-less Inv-loop μ-loop
+loop-less c = search needs
+
+loop-again : tie.Need-loop-again Inv-loop μ-loop
+loop-again c = search needs
+
+same-length : tie.Need-same-length Inv-loop μ-loop
+same-length c = search needs
+
+returns : tie.Need-returns Inv-loop μ-loop
+returns c = search needs
+
+pub set-equal-spec : {M : Type 1} → statement M
+set-equal-spec =
+    tie.close
+    (tie.spec
+    Inv-loop
+    μ-loop
+    loop-holds
+    set-read-requires
+    add-n
+    loop-less
+    loop-again
+    same-length
+    returns)
