@@ -15,7 +15,7 @@ module _ (size : ℕ) (f : ℕ → List ℕ) where
   pub length-each : (n : ℕ) (s : List ℕ) → length (putEach size f n s) ≡ length s
   unfolding putEach
   length-each zero s = refl
-  length-each (suc n) s = length-put (putEach size f n s) (n * size) (f n) ∙ length-each n s
+  length-each (suc n) s = rw length-put (length-each n s)
 
   pub each-none : (s : List ℕ) → s ≡ putEach size f 0 s
   unfolding putEach

@@ -8,8 +8,8 @@ use borrow.Author.Tests.{ltb-true, leb-true, eqb-true, lt-ltb, le-leb, eq-eqb}
 use lib.Dec.{eqb}
 use lib.ListN.{length}
 use Rattle.refusals.specs.declared.Verdict.the-variants.{Accepted}
-use Rattle.refusals.specs.Verdict.{check, first}
-use Rattle.refusals.proofs.Verdicts.{checks, first-accepted, next-accepted, check-passed, all-accepted, accepted-all, first-same, both}
+use Rattle.refusals.specs.Verdict.{first}
+use Rattle.refusals.proofs.Verdicts.{checks, all-accepted, accepted-all, first-same, both}
 use Rattle.simplex.specs.Shape.{mostPairs}
 use Rattle.simplex.specs.Limit.{total}
 use Rattle.simplex.proofs.Tables.{limit-most}
@@ -45,10 +45,10 @@ module _ (sh : Shape) (full : ℕ → Bool) (reads : List ℕ) where
     read-accepted = all-accepted (readRefusal sh full reads) (readCount reads) e n l
 
     pub accepted-named : (row reads n < sh .g) × (group reads n < sh .m) × (symbol reads n < sh .k)
-    accepted-named = form-named sh reads n (first-accepted (formRefusal sh reads n) (check 9 n (full (row reads n))) read-accepted)
+    accepted-named = let a = read-accepted in search (checks, ltb-true)
 
     accepted-full : full (row reads n) ≡ true
-    accepted-full = check-passed 9 n (full (row reads n)) (next-accepted (formRefusal sh reads n) (check 9 n (full (row reads n))) read-accepted)
+    accepted-full = let a = read-accepted in search checks
 
   module _ (out schedule : ℕ) where
     pub accepts : listRefusal sh full reads out schedule ≡ Accepted → Accepts sh full reads out schedule
