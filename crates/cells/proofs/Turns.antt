@@ -3,12 +3,12 @@ use mathlib.Core.Path.{_≡_, refl, sym, ap, ap₂, _∙_}
 use mathlib.Core.Logic.{_⊎_, inl, inr, ⊎-elim}
 use mathlib.Core.List.{List, [], _∷_}
 use Prim.Native.Nat.{ℕ, zero, suc, _+_, _≤_, _<_}
-use native.Mathlib.Nat.{not-suc-le-zero, le-of-suc-le-suc, suc-add, zero-add}
+use native.Mathlib.Nat.{not-suc-le-zero, le-of-suc-le-suc, eq-or-lt-of-le, suc-add, zero-add}
 use native.Mathlib.Numerals.{add-one}
 use native.Mathlib.Omega.{arith}
 use lib.Bits.{bitXor}
 use lib.ListN.{length, getD, set, take}
-use lib.Seq.{take-all, length-take-le}
+use lib.Seq.{take-all, length-take-le, getD-set-same, getD-set-other}
 use Rattle.cells.specs.Cell.{cell, put}
 use Rattle.cells.specs.Xor.{xorBytes}
 use Rattle.cells.proofs.Xors.{length-xor, getD-xor}
@@ -49,3 +49,11 @@ not-yet s at t i l from n h k e out =
     let m : length (take i t) ≡ i = length-take-le i t (omega arith) in
     ap (λ (r : List ℕ). getD r (from + i) 0) e
     ∙ getD-put-out s at (take i t) (from + i) (⊎-elim (λ o. inl (omega arith)) (λ o. inr (omega arith)) out)
+
+-- one turn of a loop that clears: the bytes before i are 0
+pub zero-next : (l : List ℕ) (i : ℕ) → i < length l → ((j : ℕ) → j < i → getD l j 0 ≡ 0) → (j : ℕ) → j < i + 1 → getD (set l i 0) j 0 ≡ 0
+zero-next l i h before j b =
+    ⊎-elim
+    (λ (same : j ≡ i). rw same (getD-set-same l i 0 0 h))
+    (λ (less : j < i). getD-set-other l i j 0 0 (omega arith) ∙ before j less)
+    (eq-or-lt-of-le (omega arith))

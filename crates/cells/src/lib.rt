@@ -1,10 +1,21 @@
-// The leaves on bytes: each sets one cell of a slice. Every other crate writes bytes through these.
+// The leaves on bytes: each sets one cell of a slice, or all of it.
 ghost use mathlib.Core.Path.{_≡_};
 ghost use mathlib.Core.Logic.{_⊎_};
 ghost use Prim.Native.Nat.{_+_, _≤_};
 ghost use lib.ListN.{length};
 ghost use Rattle.cells.specs.Cell.{cell, put};
-ghost use Rattle.cells.specs.Xor.{xorBytes};
+ghost use Rattle.cells.specs.Xor.{xorBytes, zeros};
+
+// Every byte of `s` becomes 0.
+pub fn clear(s: &mut [u8])
+    ensures { λ _. ⌜ now (s .exit) ≡ zeros (length (now (s .entry))) ⌝ }
+{
+    let mut i = 0;
+    while i < s.len() {
+        s[i] = 0;
+        i += 1;
+    }
+}
 
 // The cell of `s` at `at` becomes `src`.
 pub fn copy_into(s: &mut [u8], at: usize, src: &[u8])

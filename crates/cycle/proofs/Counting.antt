@@ -3,12 +3,13 @@ use mathlib.Core.Path.{_≡_, refl, sym, ap, _∙_}
 use mathlib.Core.Logic.{⊎-elim}
 use mathlib.Core.Bool.{Bool, true, false, cond, _&&_, and-false}
 use mathlib.Core.List.{List, [], _∷_, _++_}
-use Prim.Native.Nat.{ℕ, zero, suc, _+_, _≤_, _<_}
+use Prim.Native.Nat.{ℕ, zero, suc, _+_, _*_, _≤_, _<_}
 use native.Mathlib.Nat.{eq-or-lt-of-le, le-of-suc-le-suc, not-suc-le-zero, add-zero}
 use native.Mathlib.Omega.{arith}
 use borrow.Author.Tests.{eq-eqb, ne-eqb, ltb-true, ltb-false}
 use lib.Dec.{eqb, ltb}
 use lib.ListN.{length, getD, length-append, List·getD-eq-default}
+use Rattle.bits.specs.Marks.{howMany}
 use Rattle.bits.proofs.Marks.{none-passed}
 use Rattle.simplex.specs.Shape.{mostSymbols, SymbolsInRange}
 use Rattle.simplex.specs.Limit.{total}
@@ -96,3 +97,36 @@ read-many reads x (suc n) small =
 pub reads-many : (reads : List ℕ) (x : ℕ) → ((n : ℕ) → n < readCount reads → symbol reads n < mostSymbols)
     → length (readsIn reads x) ≡ total (countsOf reads x)
 reads-many reads x small = read-many reads x (readCount reads) small
+
+-- ---- with at most so many reads in each of m groups, all reads are at most m times as many
+
+total-most : (f : ℕ → ℕ) (most j m : ℕ) → ((x : ℕ) → x < j + m → f x ≤ most) → total (listOf f j m) ≤ m * most
+total-most f most j zero h = omega arith
+total-most f most j (suc m) h = omega (arith, h j (omega arith), total-most f most (suc j) m (λ x l. h x (omega arith)))
+
+-- things of m kinds, f j the kind of the jth: how many of the first n are of kind x; and together they are all n
+module _ (f : ℕ → ℕ) where
+  abbrev ofKind : (n x : ℕ) → ℕ
+  ofKind n x = howMany (λ j. eqb (f j) x) n
+
+  of-kinds : (m n : ℕ) → ((j : ℕ) → j < n → f j < m) → total (listOf (ofKind n) 0 m) ≡ n
+  of-kinds m zero h = omega (arith, total-most (ofKind 0) 0 0 m (λ x l. omega arith))
+  of-kinds m (suc n) h =
+      more-one (ofKind n) (f n) 0 m (omega arith) (omega (arith, h n (omega arith))) ∙ ap suc (of-kinds m n (λ j l. h j (omega arith)))
+
+group-many : (reads : List ℕ) (x n : ℕ) → length (symbolsRead reads x n) ≡ ofKind (group reads) n x
+unfolding symbolsRead
+group-many reads x zero = refl
+group-many reads x (suc n) = one (eqb (group reads n) x) (symbolsRead reads x n) (symbol reads n) (group-many reads x n)
+  where
+    one : (t : Bool) (r : List ℕ) (s : ℕ) {c : ℕ} → length r ≡ c → length (cond t (r ++ (s ∷ [])) r) ≡ c + cond t 1 0
+    one true r s e = rw (length-append r (s ∷ [])) (omega arith)
+    one false r s e = omega arith
+
+pub reads-most : (reads : List ℕ) (m most : ℕ) → ((n : ℕ) → n < readCount reads → (group reads n < m) × (symbol reads n < mostSymbols))
+    → ((x : ℕ) → x < m → total (countsOf reads x) ≤ most) → readCount reads ≤ m * most
+reads-most reads m most small few =
+    let n = readCount reads in
+    let each : (x : ℕ) → x < 0 + m → ofKind (group reads) n x ≤ most =
+    λ x l. omega (arith, group-many reads x n, reads-many reads x (λ j b. small j b .1), few x (omega arith)) in
+    omega (arith, of-kinds (group reads) m n (λ j l. small j l .0), total-most (ofKind (group reads) n) most 0 m each)
