@@ -1,0 +1,12 @@
+-- The laws of the crate.
+pub mod Lines
+pub mod Digits
+pub mod Fitting
+pub mod Lesser
+pub mod Rooms
+pub mod Done
+pub mod Cycles
+pub mod Framed
+pub mod Printing
+pub mod Kept
+pub mod Sessions

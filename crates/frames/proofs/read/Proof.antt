@@ -1,0 +1,161 @@
+-- `frames::read` meets its contract: the cycle on the memory's part of the store, and its packets said from the buffer that it has filled.
+use mathlib.Core.Path.{_≡_, sym}
+use mathlib.Core.List.{List, _∷_}
+use Prim.Native.Nat.{ℕ, _+_, _-_, _*_, _≤_}
+use native.Mathlib.Omega.{arith}
+use borrow.Author.Needs.{needs}
+use borrow.Rule.Slice.PartMut.{putMid, same-len-mid}
+use lib.ListN.{length, take}
+use lib.Seq.{length-take-le}
+use denote.Ref.{now}
+use Rattle.cells.specs.Xor.{zeros}
+use Rattle.cycle.specs.Reads.{readCount}
+use Rattle.memory.specs.declared.State.{State}
+use Rattle.frames.specs.Frames.{answerTo, said}
+use Rattle.frames.specs.Session.{mostStore, cycleOf}
+use Rattle.frames.specs.Parts.{lentSize}
+use Rattle.frames.proofs.Fitting.{fits-cycle}
+use Rattle.frames.proofs.Lesser.{lesser-within}
+use Rattle.frames.proofs.Done.{fresh, running, same-store}
+use Rattle.frames.proofs.Cycles.{front-zeros, part-zeros, part-back, cycles}
+use Rattle.frames.proofs.read.Statement.{statement}
+use Rattle.frames.proofs.read.Tie as tie
+
+-- the function's entry and the memory, from where the size of the packets is known
+abbrev St : tie.After-packets-size → tie.Start
+St c = c .before .before .before .before .before .before
+
+abbrev Memory : tie.After-packets-size → State
+Memory c = c .before .before .session .given .0 .0
+
+-- the buffer has room for them, and the store has the part that is lent
+room : (c : tie.After-packets-size) → c .packets-size .result ≤ mostStore
+room c = lesser-within _ (readCount (now (St c .args .reads)) * Memory c .shape .p) mostStore (c .packets-size .ensures)
+
+part : (c : tie.After-lent-size) → c .lent-size .result ≤ length (now (St (c .before) .args .store))
+part c = let h = lesser-within _ (lentSize (Memory (c .before) .shape)) mostStore (c .lent-size .ensures) in omega arith
+
+-- the same place, and the packets, from where the buffer is back with them
+abbrev Sized : tie.After-bytes2 → tie.After-packets-size
+Sized c = c .before .before .before .before .before .before
+
+abbrev Packets : tie.After-bytes2 → List ℕ
+Packets c = c .before .read-cycle .last .1 .1 .1 .0
+
+-- it is as long as it was, and `say` finds them in it
+as-long : (c : tie.After-bytes2) → length (putMid 2 (2 + Sized c .packets-size .result - 2) (zeros (2 + mostStore)) (Packets c)) ≡ 2 + mostStore
+as-long c = same-len-mid 2 (2 + Sized c .packets-size .result - 2) (zeros (2 + mostStore)) (Packets c) (c .bytes2 .given)
+
+spoken : (c : tie.After-say)
+    → let b = c .before .before .before in
+    take (c .say .result) (c .say .last .1 .1 .0) ≡ answerTo 4 ∷ said (Packets b) (b .before .read-cycle .result .answer)
+spoken c =
+    let b = c .before .before .before in
+    rw (part-back mostStore (Sized b .packets-size .result) (Packets b) (room (Sized b)) (b .bytes2 .given)) at (c .say .ensures .1)
+
+enum-known-session : tie.Need-enum-known-session
+enum-known-session c = search needs
+
+enum-told : tie.Need-enum-told
+enum-told c = search needs
+
+refuse-requires : tie.Need-refuse-requires
+refuse-requires c κs = search needs
+
+returns : tie.Need-returns
+returns c =
+    let a = c .before .before .before .before .before .before .args in
+    fresh (a .session) (now (a .store)) 4 (cycleOf (now (a .reads))) (c .before .before .enum-told .given .1) (c .refuse .ensures (now (a .store)))
+
+packets-size-requires : tie.Need-packets-size-requires
+packets-size-requires c κs = search needs
+
+lent-size-requires : tie.Need-lent-size-requires
+lent-size-requires c κs = search needs
+
+slice-aggregate-read-cycle : tie.Need-slice-aggregate-read-cycle
+slice-aggregate-read-cycle c = sym (length-take-le _ _ (part (c .before)))
+
+add-read-cycle : tie.Need-add-read-cycle
+add-read-cycle c = omega (arith, room (c .before .before))
+
+sub-read-cycle : tie.Need-sub-read-cycle
+sub-read-cycle c = search needs
+
+part-bytes-start : tie.Need-part-bytes-start
+part-bytes-start c = search needs
+
+part-bytes-end : tie.Need-part-bytes-end
+part-bytes-end c = omega (arith, room (c .before .before))
+
+mul-schedule : tie.Need-mul-schedule
+mul-schedule c = search needs
+
+array-borrow-prefix-schedule : tie.Need-array-borrow-prefix-schedule
+array-borrow-prefix-schedule c = search needs
+
+slice-aggregate-read-cycle-2 : tie.Need-slice-aggregate-read-cycle-2
+slice-aggregate-read-cycle-2 c = sym (length-take-le _ _ (omega arith))
+
+read-cycle-requires : tie.Need-read-cycle-requires
+read-cycle-requires c κs = search needs
+
+slice-aggregate-say : tie.Need-slice-aggregate-say
+slice-aggregate-say c = sym (as-long (c .before .before))
+
+say-requires : tie.Need-say-requires
+say-requires c κs =
+    let b = c .before .before in
+    let fits = fits-cycle _ _ _ _ _ (St (Sized b) .pre .0) in
+    (rw (b .before .read-cycle .ensures .0) fits, omega (arith, as-long b), omega (arith, as-long b, room (Sized b)))
+
+array-share-prefix-bytes : tie.Need-array-share-prefix-bytes
+array-share-prefix-bytes c = search needs
+
+slice-aggregate-put-line : tie.Need-slice-aggregate-put-line
+slice-aggregate-put-line c = sym (length-take-le _ _ (c .before .before .say .ensures .0))
+
+put-line-requires : tie.Need-put-line-requires
+put-line-requires c κs =
+    let s = c .before .before .before .say in
+    omega (arith, length-take-le (s .result) (s .last .1 .1 .0) (s .ensures .0))
+
+returns-2 : tie.Need-returns-2
+returns-2 c =
+    let s = c .before .before .before .before .before in
+    let r = s .before .before .before .before in
+    let l = r .before .before .before .before in
+    let z = l .before in
+    let a = St z .args in
+    let said = cycles (now (a .store)) (now (a .reads)) (Memory z) _ _ (St z .pre .1) (l .lent-size .ensures) (z .packets-size .ensures) _ _ _ _
+    (part-zeros mostStore (z .packets-size .result) (room z)) (front-zeros 1364 (readCount (now (a .reads)) * 2) (omega (arith, St z .pre .0)))
+    (r .read-cycle .ensures .0) (r .read-cycle .ensures .1 .0) in
+    running (a .session) (now (a .store)) 4 (cycleOf (now (a .reads))) _ (r .read-cycle .result) _ (now (a .out)) _ _ (z .before .before .session .given .1)
+    (rw (r .read-cycle .ensures .0))
+    (same-store (Memory z) (now (a .store))) (rw (spoken s, said) at (c .before .put-line .ensures))
+
+pub read-spec : {M : Type 1} → statement M
+read-spec =
+    tie.close
+    (tie.spec
+    enum-known-session
+    enum-told
+    refuse-requires
+    returns
+    packets-size-requires
+    lent-size-requires
+    slice-aggregate-read-cycle
+    add-read-cycle
+    sub-read-cycle
+    part-bytes-start
+    part-bytes-end
+    mul-schedule
+    array-borrow-prefix-schedule
+    slice-aggregate-read-cycle-2
+    read-cycle-requires
+    slice-aggregate-say
+    say-requires
+    array-share-prefix-bytes
+    slice-aggregate-put-line
+    put-line-requires
+    returns-2)

@@ -1,0 +1,40 @@
+-- `frames::release` meets its contract.
+use borrow.Author.Needs.{needs}
+use denote.Ref.{now}
+use Rattle.memory.specs.History.{release}
+use Rattle.frames.proofs.Done.{fresh, running, same-store}
+use Rattle.frames.proofs.Fitting.{fits-release}
+use Rattle.frames.proofs.release.Statement.{statement}
+use Rattle.frames.proofs.release.Tie as tie
+
+enum-known-session : tie.Need-enum-known-session
+enum-known-session c = search needs
+
+enum-told : tie.Need-enum-told
+enum-told c = search needs
+
+refuse-requires : tie.Need-refuse-requires
+refuse-requires c κs = search needs
+
+returns : tie.Need-returns
+returns c s =
+    let a = c .before .before .before .before .args in
+    fresh (a .session) s 3 (λ sh. release (a .row)) (c .before .before .enum-told .given .1) (c .refuse .ensures s)
+
+release-requires : tie.Need-release-requires
+release-requires c κs = search needs
+
+put-answer-requires : tie.Need-put-answer-requires
+put-answer-requires c κs = rw (c .before .release .ensures) (fits-release _ _)
+
+returns-2 : tie.Need-returns-2
+returns-2 c s =
+    let p = c .before in
+    let r = p .before .before in
+    let k = r .before in
+    let a = k .before .before .before .args in
+    running (a .session) s 3 (λ sh. release (a .row)) _ (r .release .result) s (now (a .out)) _ _ (k .before .session .given .1) (rw (r .release .ensures))
+    (same-store (k .before .session .given .0 .0) s) (rw (r .release .ensures) at (p .put-answer .ensures))
+
+pub release-spec : {M : Type 1} → statement M
+release-spec = tie.close (tie.spec enum-known-session enum-told refuse-requires returns release-requires put-answer-requires returns-2)
