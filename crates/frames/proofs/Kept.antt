@@ -5,7 +5,7 @@ use Prim.Native.Nat.{ℕ, suc, _+_, _*_, _≤_, _<_}
 use native.Mathlib.Omega.{arith}
 use borrow.Author.Tests.{leb-true}
 use lib.ListN.{length, take, drop, length-replicate}
-use lib.Seq.{take-at, length-front}
+use lib.Seq.{take-at, length-front, length-take-le}
 use Rattle.refusals.specs.declared.Verdict.{Verdict}
 use Rattle.refusals.specs.declared.Verdict.the-variants.{Accepted, Refused}
 use Rattle.refusals.specs.Verdict.{ifRefused}
@@ -31,24 +31,19 @@ use Rattle.frames.specs.Hex.{bytesOf}
 use Rattle.frames.specs.Frames.{lineRefusal, frameOf, answerTo, answerToNone, said}
 use Rattle.frames.specs.Session.{mostStore, After, unlessRefused, setUpRefusal, memoryOf, behind, operationDone, cycleOf, frameDone, lineDone, linesDone, afterLines, answerAfter}
 use Rattle.frames.specs.Past.{Past, nothing, since, more, pastByFrame, pastBy, pastIn, Keeps, Brings}
-use Rattle.frames.proofs.Cycles.{front-zeros}
 
--- a memory just set up, with a zeroed store
-abbrev new : Shape → Memory
-new sh = record { state = setUpOf sh .state; store = zeros (storeSize sh) }
-
-remembers : (sh : Shape) (history : History) → setUpRefusal sh ≡ Accepted → Remembers sh history (run (new sh) history)
-unfolding setUpRefusal
-remembers sh history e =
-    let fine : shapeRefusal sh ≡ Accepted = search checks in
-    after-any-history sh fine (zeros (storeSize sh)) (length-replicate (storeSize sh) 0) history
+-- a memory just set up, over any store
+abbrev new : Shape → (first : List ℕ) → Memory
+new sh first = record { state = setUpOf sh .state; store = first }
 
 -- the memory of a session is what a history leaves of it
 record Left (sh : Shape) (history : History) (session : Session) (store : List ℕ) : Type 0 where
   accepted : setUpRefusal sh ≡ Accepted
+  first : List ℕ
+  whole : length first ≡ storeSize sh
   state : State
   is : session ≡ Running state
-  memory : memoryOf state store ≡ run (new sh) history
+  memory : memoryOf state store ≡ run (new sh first) history
 
 abbrev Has : Past → Session → (store : List ℕ) → Type 0
 Has nothing session store = session ≡ Fresh
@@ -56,27 +51,43 @@ Has (since sh history) session store = Left sh history session store
 
 -- ---- one operation
 
-module _ (sh : Shape) (history : History) (e : setUpRefusal sh ≡ Accepted) (st : State) (store : List ℕ) (m : memoryOf st store ≡ run (new sh) history) where
-  before : Remembers sh history (memoryOf st store)
-  before = rw m (remembers sh history e)
+module _ {sh : Shape} {history : History} {session : Session} {store : List ℕ} (h : Left sh history session store) where
+  remembers : (history : History) → Remembers sh history (run (new sh (h .first)) history)
+  unfolding setUpRefusal
+  remembers history =
+      let e : setUpRefusal sh ≡ Accepted = h .accepted in
+      let fine : shapeRefusal sh ≡ Accepted = search checks in
+      after-any-history sh fine (h .first) (h .whole) history
 
-  then : (op : Operation) → Remembers sh (op ∷ history) (step (memoryOf st store) op)
-  then op = rw (← m) at (remembers sh (op ∷ history) e)
+  before : Remembers sh history (memoryOf (h .state) store)
+  before = rw (h .memory) (remembers history)
+
+  then : (op : Operation) → Remembers sh (op ∷ history) (step (memoryOf (h .state) store) op)
+  then op = rw (← h .memory) at (remembers (op ∷ history))
 
   -- the memory's part of the store is that of the history, and the bytes behind it are as many as before
   left-by : (op same : Operation) → op ≡ same
-      → let s = storeAfter (memoryOf st store) op ++ behind st store in
-      Left sh (same ∷ history) (Running (outcomeOf (memoryOf st store) op .state)) s × (length s ≡ length store)
+      → let memory = memoryOf (h .state) store in
+      let s = storeAfter memory op ++ behind (h .state) store in
+      Left sh (same ∷ history) (Running (outcomeOf memory op .state)) s × (length s ≡ length store)
   left-by op same q =
-      let part = storeAfter (memoryOf st store) op in
+      let memory = memoryOf (h .state) store in
+      let part = storeAfter memory op in
+      let rest = behind (h .state) store in
       let size : length part ≡ storeSize sh = then op .size in
-      let front : take (storeSize (outcomeOf (memoryOf st store) op .state .shape)) (part ++ behind st store) ≡ part =
-      rw (then op .shape) (take-at part (behind st store) (storeSize sh) size) in
-      let stepped : step (memoryOf st store) op ≡ run (new sh) (same ∷ history) =
-      ap (λ (memory : Memory). step memory op) m ∙ ap (λ (o : Operation). step (run (new sh) history) o) q in (
-        record { accepted = e; state = outcomeOf (memoryOf st store) op .state; is = refl; memory = rw front stepped },
-        length-front store part (storeSize (st .shape)) (size ∙ sym (before .size)),
-      )
+      let front : take (storeSize (outcomeOf memory op .state .shape)) (part ++ rest) ≡ part =
+      rw (then op .shape) (take-at part rest (storeSize sh) size) in
+      let stepped : step memory op ≡ run (new sh (h .first)) (same ∷ history) =
+      ap (λ (m : Memory). step m op) (h .memory) ∙ ap (λ (o : Operation). step (run (new sh (h .first)) history) o) q in
+      let left : Left sh (same ∷ history) (Running (outcomeOf memory op .state)) (part ++ rest) = record {
+        accepted = h .accepted;
+        first = h .first;
+        whole = h .whole;
+        state = outcomeOf memory op .state;
+        is = refl;
+        memory = rw front stepped;
+      } in
+      (left, length-front store part (storeSize (h .state .shape)) (size ∙ sym (before .size)))
 
 -- ---- one line
 
@@ -90,26 +101,28 @@ module _ (session : Session) (store : List ℕ) (size : length store ≡ mostSto
   by-verdict past next Accepted first after h k = k refl
   by-verdict past next (Refused number place) first after h k = (h, size)
 
-  set-up : (sh : Shape) → setUpRefusal sh ≡ Accepted
-      → Has (since sh []) (Running (setUpOf sh .state)) (zeros (length store)) × (length (zeros (length store)) ≡ mostStore)
+  -- whatever the store then holds
+  set-up : (sh : Shape) (s : List ℕ) → length s ≡ mostStore → setUpRefusal sh ≡ Accepted
+      → Has (since sh []) (Running (setUpOf sh .state)) s × (length s ≡ mostStore)
   unfolding setUpRefusal
-  set-up sh e =
+  set-up sh s all e =
       let fine : shapeRefusal sh ≡ Accepted = search checks in
       let small : storeSize sh ≤ mostStore = search (checks, leb-true) in
-      let front = front-zeros (length store) (storeSize sh) (omega arith) in
-      (record { accepted = e; state = setUpOf sh .state; is = refl; memory = rw (fine, front) }, length-replicate (length store) 0 ∙ size)
+      let part = memoryOf (setUpOf sh .state) s .store in
+      let whole : length part ≡ storeSize sh = rw fine (length-take-le (storeSize sh) s (omega arith)) in
+      (record { accepted = e; first = part; whole = whole; state = setUpOf sh .state; is = refl; memory = refl }, all)
 
   operation : (past : Past) → Has past session store → (kind : ℕ) (ask : Shape → Operation) → Kept (more ask past) (operationDone session store kind ask)
   operation nothing h kind ask = rw h (refl, size)
   operation (since sh history) h kind ask =
-      let same : h .state .shape ≡ sh = before sh history (h .accepted) (h .state) store (h .memory) .shape in
-      let l = left-by sh history (h .accepted) (h .state) store (h .memory) (ask (h .state .shape)) (ask sh) (ap ask same) in
+      let l = left-by h (ask (h .state .shape)) (ask sh) (ap ask (before h .shape)) in
       rw (h .is) (l .0, l .1 ∙ size)
 
   by-frame : (past : Past) → Has past session store → (bytes : List ℕ) (frame : Frame)
       → Kept (pastByFrame past bytes frame) (frameDone session store bytes frame)
   unfolding frameDone
-  by-frame past h bytes (SetUp sh) = by-verdict past (since sh []) (setUpRefusal sh) (answerTo 1) _ h (set-up sh)
+  by-frame past h bytes (SetUp sh) =
+      by-verdict past (since sh []) (setUpRefusal sh) (answerTo 1) _ h (set-up sh _ (omega (arith, length-replicate {A = ℕ} (length store) 0, size)))
   by-frame past h bytes (Write row) = operation past h 2 (λ sh. write row (drop 2 bytes))
   by-frame past h bytes (Release row) = operation past h 3 (λ sh. release row)
   by-frame past h bytes Read = operation past h 4 (cycleOf (drop 1 bytes))
@@ -130,7 +143,7 @@ by-lines session store size past h (line ∷ lines) =
 
 keeps : (past : Past) (session : Session) (store : List ℕ) → Has past session store → Keeps past session store
 keeps nothing session store h = h
-keeps (since sh history) session store h = (h .state, h .is, rw (h .memory) (remembers sh history (h .accepted)))
+keeps (since sh history) session store h = (h .state, h .is, before h)
 
 pub kept : (lines : List (List ℕ)) → Keeps (pastIn nothing lines) (afterLines lines .session) (afterLines lines .store)
 kept lines =

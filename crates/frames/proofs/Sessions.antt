@@ -49,15 +49,7 @@ unfolding linesOf digitsOf
 printed-line [] text = refl
 printed-line (b ∷ bytes) text = rw (no-feed (b / 16), no-feed (b % 16), printed-line bytes text)
 
-line-each : (session : Session) (store : List ℕ) (lines : List (List ℕ)) → length (linesOf (linesDone session store lines .output)) ≡ length lines
-unfolding linesDone linesOf
-line-each session store [] = refl
-line-each session store (line ∷ lines) =
-    let first = lineDone session store line in
-    let rest = linesDone (first .session) (first .store) lines in
-    ap length (printed-line (first .answer) (rest .output)) ∙ ap suc (line-each (first .session) (first .store) lines)
-
--- it is what that line answers after those before it
+-- line n is what line n answers after those before it
 in-order : (session : Session) (store : List ℕ) (lines : List (List ℕ)) (n : ℕ) → n < length lines
     → let before = linesDone session store (take n lines) in
     getD (linesOf (linesDone session store lines .output)) n [] ≡ digitsOf (lineDone (before .session) (before .store) (getD lines n []) .answer)
@@ -70,6 +62,14 @@ in-order session store (line ∷ lines) (suc n) h =
     let first = lineDone session store line in
     rw (printed-line (first .answer) (linesDone (first .session) (first .store) lines .output))
     (in-order (first .session) (first .store) lines n (omega arith))
+
+line-each : (session : Session) (store : List ℕ) (lines : List (List ℕ)) → length (linesOf (linesDone session store lines .output)) ≡ length lines
+unfolding linesDone linesOf
+line-each session store [] = refl
+line-each session store (line ∷ lines) =
+    let first = lineDone session store line in
+    let rest = linesDone (first .session) (first .store) lines in
+    ap length (printed-line (first .answer) (rest .output)) ∙ ap suc (line-each (first .session) (first .store) lines)
 
 pub the-session : TheSession
 the-session = record {

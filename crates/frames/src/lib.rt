@@ -84,6 +84,7 @@ fn judge_line(line: &[u8]) -> Verdict
     Verdict::Accepted
 }
 
+// A byte as a word: an index's bound is then all that its use asks.
 fn wide(b: u8) -> usize
     ensures { λ r. ⌜ r ≡ b ⌝ }
 {
