@@ -12,10 +12,10 @@ use Rattle.refusals.specs.Verdict.{between}
 use Rattle.refusals.proofs.Verdicts.{check-passed, both, between-words}
 use Rattle.cells.specs.Cell.{put}
 use Rattle.cells.proofs.Cells.{cell-put}
-use Rattle.frames.specs.Lines.{each}
-use Rattle.frames.specs.Hex.{isDigit, bytesOf}
+use Rattle.lines.specs.Lines.{each}
+use Rattle.lines.specs.Hex.{isDigit, bytesOf}
 use Rattle.frames.specs.Frames.{mostCharacters, lineRefusal}
-use Rattle.frames.proofs.Digits.{length-bytes}
+use Rattle.lines.proofs.Digits.{length-bytes}
 
 pub record Framed (line : List ℕ) : Type 0 where
   pub some : 1 ≤ length line

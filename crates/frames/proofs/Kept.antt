@@ -27,7 +27,7 @@ use Rattle.frames.specs.declared.Session.{Session}
 use Rattle.frames.specs.declared.Session.the-variants.{Fresh, Running}
 use Rattle.frames.specs.declared.Frame.{Frame}
 use Rattle.frames.specs.declared.Frame.the-variants.{SetUp, Write, Release, Read, Unknown}
-use Rattle.frames.specs.Hex.{bytesOf}
+use Rattle.lines.specs.Hex.{bytesOf}
 use Rattle.frames.specs.Frames.{lineRefusal, frameOf, answerTo, answerToNone, said}
 use Rattle.frames.specs.Session.{mostStore, After, unlessRefused, setUpRefusal, memoryOf, behind, operationDone, cycleOf, frameDone, lineDone, linesDone, afterLines, answerAfter}
 use Rattle.frames.specs.Past.{Past, nothing, since, more, pastByFrame, pastBy, pastIn, Keeps, Brings}

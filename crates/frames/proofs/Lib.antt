@@ -1,6 +1,4 @@
 -- The laws of the crate.
-pub mod Lines
-pub mod Digits
 pub mod Fitting
 pub mod Lesser
 pub mod Rooms

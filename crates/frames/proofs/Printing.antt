@@ -7,8 +7,8 @@ use lib.ListN.{length, take, set, length-append}
 use Rattle.cells.specs.Cell.{cell, put}
 use Rattle.cells.proofs.Cells.{put-none}
 use Rattle.frames.specs.Frames.{printed}
-use Rattle.frames.specs.Hex.{digitsOf}
-use Rattle.frames.proofs.Digits.{length-digits}
+use Rattle.lines.specs.Hex.{digitsOf}
+use Rattle.lines.proofs.Digits.{length-digits}
 
 -- ---- bytes of an answer
 

@@ -14,13 +14,13 @@ use Rattle.cells.proofs.Cells.{length-put}
 use Rattle.frames.specs.declared.Session.{Session}
 use Rattle.frames.specs.declared.Session.the-variants.{Fresh}
 use Rattle.frames.specs.declared.Next.{Next}
-use Rattle.frames.specs.Lines.{lineFeed, linesOf, lineAt}
-use Rattle.frames.specs.Hex.{char0, smallA, digitOf, digitsOf}
+use Rattle.lines.specs.Lines.{lineFeed, linesOf, lineAt}
+use Rattle.lines.specs.Hex.{char0, smallA, digitOf, digitsOf}
 use Rattle.frames.specs.Frames.{printed}
 use Rattle.frames.specs.Session.{mostText, mostStore, AfterLines, lineDone, andThen, linesDone, textRead, textDone}
 use Rattle.frames.specs.Steps.{Answers}
 use Rattle.frames.specs.Laws.{TheSession}
-use Rattle.frames.proofs.Lines.{the-lines}
+use Rattle.lines.proofs.Lines.{the-lines}
 use Rattle.frames.proofs.Kept.{kept, returned}
 
 next : (session : Session) (store text : List ℕ) (at : ℕ) → at < length text

@@ -10,8 +10,8 @@ use Rattle.memory.specs.declared.Answer.{Answer}
 use Rattle.memory.specs.declared.Answer.the-variants.{FullRows, Served, Refused}
 use Rattle.frames.specs.declared.Frame.{Frame}
 use Rattle.frames.specs.declared.Frame.the-variants.{SetUp, Write, Release, Read, Unknown}
-use Rattle.frames.specs.Lines.{lineFeed, each}
-use Rattle.frames.specs.Hex.{isDigit, digitsOf}
+use Rattle.lines.specs.Lines.{lineFeed, each}
+use Rattle.lines.specs.Hex.{isDigit, digitsOf}
 
 -- The most characters of a line.
 abbrev pub mostCharacters : ℕ

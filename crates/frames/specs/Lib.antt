@@ -1,6 +1,4 @@
--- The definitions of the crate: the lines of a text, hexadecimal, frames and sessions.
-pub mod Lines
-pub mod Hex
+-- The definitions of the crate: frames and sessions.
 pub mod Frames
 pub mod Session
 pub mod Steps

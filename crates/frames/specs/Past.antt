@@ -14,7 +14,7 @@ use Rattle.frames.specs.declared.Session.{Session}
 use Rattle.frames.specs.declared.Session.the-variants.{Fresh, Running}
 use Rattle.frames.specs.declared.Frame.{Frame}
 use Rattle.frames.specs.declared.Frame.the-variants.{SetUp, Write, Release, Read, Unknown}
-use Rattle.frames.specs.Hex.{bytesOf}
+use Rattle.lines.specs.Hex.{bytesOf}
 use Rattle.frames.specs.Frames.{lineRefusal, frameOf, answerTo}
 use Rattle.frames.specs.Session.{setUpRefusal, memoryOf, cycleOf}
 

@@ -18,8 +18,8 @@ use Rattle.frames.specs.declared.Session.{Session}
 use Rattle.frames.specs.declared.Session.the-variants.{Fresh, Running}
 use Rattle.frames.specs.declared.Frame.{Frame}
 use Rattle.frames.specs.declared.Frame.the-variants.{SetUp, Write, Release, Read, Unknown}
-use Rattle.frames.specs.Lines.{linesOf}
-use Rattle.frames.specs.Hex.{bytesOf}
+use Rattle.lines.specs.Lines.{linesOf}
+use Rattle.lines.specs.Hex.{bytesOf}
 use Rattle.frames.specs.Frames.{lineRefusal, frameOf, answerTo, answerToNone, refusalSaid, said, printed}
 
 -- The bytes that a session reads, and those of its store.

@@ -7,7 +7,7 @@ use Rattle.cells.specs.Cell.{cell, put}
 use Rattle.frames.specs.declared.Session.{Session}
 use Rattle.frames.specs.declared.Reply.{Reply}
 use Rattle.frames.specs.declared.Next.{Next}
-use Rattle.frames.specs.Lines.{lineAt}
+use Rattle.lines.specs.Lines.{lineAt}
 use Rattle.frames.specs.Frames.{printed}
 use Rattle.frames.specs.Session.{After, lineDone}
 

@@ -7,13 +7,9 @@ ghost use Rattle.cells.specs.Cell.{cell};
 ghost use Rattle.memory.specs.History.{write as writes, release as releases};
 ghost use Rattle.frames.specs.Frames.{lineRefusal, frameOf, said};
 ghost use Rattle.frames.specs.Session.{mostStore, refusedWith, setUpRefusal, setUpDone, operationDone, cycleOf, frameDone, lineDone};
-ghost use Rattle.frames.specs.Laws.{TheLines, TheDigits, TheSession};
+ghost use Rattle.frames.specs.Laws.{TheSession};
 ghost use Rattle.frames.specs.Steps.{Prints, Gives, Answers};
 ghost use Rattle.frames.specs.Parts.{lesser, lentSize, Fits};
-
-mod hex;
-pub mod reader;
-
 use layout::Shape;
 use memory::Answer;
 use memory::State;
@@ -61,11 +57,9 @@ enum Frame {
     Unknown,
 }
 
-// Carries the laws of the lines of a text, of hexadecimal, and of a session. It does nothing.
+// Carries the laws of a session. It does nothing.
 pub fn the_session()
-    ensures lines { λ _. ⌜ TheLines ⌝ }
-    ensures digits { λ _. ⌜ TheDigits ⌝ }
-    ensures session { λ _. ⌜ TheSession ⌝ }
+    ensures { λ _. ⌜ TheSession ⌝ }
 {}
 
 // The refusal of a line: 17.
@@ -78,7 +72,7 @@ fn judge_line(line: &[u8]) -> Verdict
     if line.len() % 2 != 0 {
         return Verdict::Refused(17, 0);
     }
-    if !hex::all_digits(line) {
+    if !lines::hex::all_digits(line) {
         return Verdict::Refused(17, 0);
     }
     Verdict::Accepted
@@ -155,7 +149,7 @@ fn put_line(bytes: &[u8], out: &mut [u8]) -> usize
     requires { ⌜ 2 * length (now bytes) + 1 ≤ length (now out) ⌝ }
     ensures { λ r. ⌜ Prints (now (bytes .entry)) (now (out .entry)) r (now (out .exit)) ⌝ }
 {
-    hex::encode(bytes, out);
+    lines::hex::encode(bytes, out);
     let end = 2 * bytes.len();
     out[end] = b'\n';
     end + 1
@@ -351,7 +345,7 @@ pub fn step(
         return refuse(session, 0xff, number, place, out);
     }
     let mut bytes = [0u8; MOST_FRAME];
-    hex::decode(line, &mut bytes[..]);
+    lines::hex::decode(line, &mut bytes[..]);
     let len = line.len() / 2;
     do_frame(session, &bytes[..len], store, out)
 }
@@ -372,7 +366,7 @@ pub fn answer_next(
             at,
         };
     }
-    let line = reader::next_line(text, at);
+    let line = lines::reader::next_line(text, at);
     let end = line.end;
     let reply = step(session, &text[at..end], store, out);
     Next {

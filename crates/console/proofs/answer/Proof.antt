@@ -8,7 +8,7 @@ use mathlib.Core.List.{List}
 use lib.ListN.{length, drop, length-take}
 use lib.Seq.{length-take-le}
 use denote.Ref.{now}
-use Rattle.frames.specs.Lines.{linesOf}
+use Rattle.lines.specs.Lines.{linesOf}
 use Rattle.frames.specs.Session.{mostText, linesDone}
 use Rattle.frames.proofs.Sessions.{Ahead, at-first, at-last, and-on, turn, further, same-room}
 use Rattle.console.proofs.answer.Statement.{statement}

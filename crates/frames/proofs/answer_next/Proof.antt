@@ -5,7 +5,7 @@ use native.Mathlib.Omega.{arith}
 use borrow.Author.Needs.{needs}
 use lib.ListN.{length}
 use denote.Ref.{now}
-use Rattle.frames.proofs.Lines.{end-within}
+use Rattle.lines.proofs.Lines.{end-within}
 use Rattle.frames.proofs.answer_next.Statement.{statement}
 use Rattle.frames.proofs.answer_next.Tie as tie
 

@@ -7,9 +7,9 @@ use lib.ListN.{length, take}
 use denote.Ref.{now}
 use Rattle.refusals.specs.declared.Verdict.the-variants.{Accepted, Refused}
 use Rattle.cells.proofs.Cells.{length-put}
-use Rattle.frames.specs.Hex.{bytesOf}
+use Rattle.lines.specs.Hex.{bytesOf}
 use Rattle.frames.specs.Frames.{lineRefusal}
-use Rattle.frames.proofs.Digits.{length-bytes}
+use Rattle.lines.proofs.Digits.{length-bytes}
 use Rattle.frames.proofs.Fitting.{line-near, near-place}
 use Rattle.frames.proofs.Done.{by-verdict}
 use Rattle.frames.proofs.Framed.{Framed, framed, decoded}

@@ -1,12 +1,10 @@
--- `frames::the_session` carries the laws of lines, hexadecimal and sessions.
-use Rattle.frames.proofs.Lines.{the-lines}
-use Rattle.frames.proofs.Digits.{the-digits}
+-- `frames::the_session` carries the laws of sessions.
 use Rattle.frames.proofs.Sessions.{the-session}
 use Rattle.frames.proofs.the_session.Statement.{statement}
 use Rattle.frames.proofs.the_session.Tie as tie
 
 returns : tie.Need-returns
-returns c = (the-lines, (the-digits, the-session))
+returns c = the-session
 
 pub the-session-spec : {M : Type 1} → statement M
 the-session-spec = tie.close (tie.spec returns)
