@@ -82,11 +82,11 @@ def search(K, counts, random, mate):
 def row(K, counts, mate):
     """The pairs in the order of a plan, packed: the second bank of read n, without the bit of its symbol, at bit DIGIT_BITS * n."""
     word = n = 0
-    for p in range(K):
+    for i in range(K):
         for a in range(1, 1 << K):
-            if a >> p & 1 and mate[a] == a ^ 1 << p:
+            if a >> i & 1 and mate[a] == a ^ 1 << i:
                 b = mate[a]
-                word |= (b % (1 << p) + (b >> p + 1 << p)) << DIGIT_BITS * n
+                word |= (b % (1 << i) + (b >> i + 1 << i)) << DIGIT_BITS * n
                 n += 1
     assert n == sum(counts)
     return word
@@ -147,12 +147,12 @@ def main():
     starts = range(0, len(rows), BLOCK)
     crate = pathlib.Path(__file__).parent.parent / "crates" / "table"
 
-    arms = ""
-    for at in starts:
-        name = "_" if at == starts[-1] else at // BLOCK
-        arms += f"        {name} => [\n"
-        arms += "".join(f"            {w}, // {n}\n" for w, n in zip(words[at:at + BLOCK], notes[at:at + BLOCK]))
-        arms += "        ],\n"
+    blocks = arms = ""
+    for n, at in enumerate(starts):
+        blocks += f"const BLOCK_{n}: [u64; BLOCK] = [\n"
+        blocks += "".join(f"    {w}, // {note}\n" for w, note in zip(words[at:at + BLOCK], notes[at:at + BLOCK]))
+        blocks += "];\n\n"
+        arms += f"        {'_' if at == starts[-1] else n} => BLOCK_{n},\n"
     (crate / "src" / "rows.rt").write_text(
         "// The stored rows and their trie. Written by tools/table.py; nothing rests on how they were found.\n"
         "ghost use mathlib.Core.Path.{_≡_};\n"
@@ -164,6 +164,7 @@ def main():
         f"pub const BLOCK: usize = {BLOCK};\n\n"
         "// Where the row of a request is: by the walk of specs/Table.antt.\n"
         f"pub const TRIE: [u8; {len(entries)}] = [\n" + "".join(f"    {e},\n" for e in entries) + "];\n\n"
+        "// The rows, in blocks: each with the K and the counts that it is for.\n" + blocks +
         "// Rows n * BLOCK and on. A match, because a constant array would be stored anew at each use.\n"
         "pub fn block(n: usize) -> [u64; BLOCK]\n"
         "    requires { ⌜ n < length blocks ⌝ }\n"

@@ -18,19 +18,13 @@ use Rattle.audit.specs.declared.Rest.{Rest}
 use Rattle.audit.specs.declared.Audited.{Audited}
 use Rattle.audit.specs.declared.Audited.the-variants.{Yes, No, Refused as NotAudited}
 use Rattle.audit.specs.Plan.{Pair, isPlan}
-use Rattle.audit.specs.Audit.{countsRefusal, pairsOf, isPlanOf, restOf, answer, auditOf, RequestOf, bytesOf, PlanIn}
+use Rattle.audit.specs.Audit.{countsRefusal, pairsOf, restOf, answer, auditOf, RequestOf, pairBytes, PlanIn}
 use Rattle.audit.proofs.Reading.{sound, complete}
 use Rattle.audit.proofs.Served.{limit}
 use Rattle.audit.proofs.Requests.{all-zero, zero-all}
 use Rattle.audit.proofs.Walk.{not-as-many}
 
 -- where the counts are not refused, both checks are passed
-left : (t u : Bool) → (t && u) ≡ true → t ≡ true
-left t u e = both t u .0 e .0
-
-right : (t u : Bool) → (t && u) ≡ true → u ≡ true
-right t u e = both t u .0 e .1
-
 module _ (K : ℕ) (counts : List ℕ) (e : countsRefusal K counts ≡ Accepted) where
   pub in-range : SymbolsInRange K
   in-range =
@@ -38,7 +32,7 @@ module _ (K : ℕ) (counts : List ℕ) (e : countsRefusal K counts ≡ Accepted)
       let w = between-words leastSymbols mostSymbols K k in
       record { least = w .0; most = w .1 }
 
-  pub beyond-zero : (i : ℕ) → K ≤ i → getD counts i 0 ≡ 0
+  beyond-zero : (i : ℕ) → K ≤ i → getD counts i 0 ≡ 0
   beyond-zero = all-zero K counts (search checks)
 
 module _ (K : ℕ) (counts bytes : List ℕ) where
@@ -92,11 +86,9 @@ module _ (K : ℕ) (counts : List ℕ) where
     tests : auditOf K counts bytes ≡ Yes → (countsRefusal K counts ≡ Accepted) × (length bytes % 2 ≡ 0) × (isPlan K counts (pairsOf bytes) ≡ true)
     unfolding auditOf
     tests e =
-        let p = yes-parts (countsRefusal K counts) (isPlanOf K counts bytes) e in (
-          p .0,
-          eqb-true (length bytes % 2) 0 (left (eqb (length bytes % 2) 0) (isPlan K counts (pairsOf bytes)) (p .1)),
-          right (eqb (length bytes % 2) 0) (isPlan K counts (pairsOf bytes)) (p .1),
-        )
+        let p = yes-parts (countsRefusal K counts) (eqb (length bytes % 2) 0 && isPlan K counts (pairsOf bytes)) e in
+        let t = both (eqb (length bytes % 2) 0) (isPlan K counts (pairsOf bytes)) .0 (p .1) in
+        (p .0, eqb-true (length bytes % 2) 0 (t .0), t .1)
 
     pub says-yes : countsRefusal K counts ≡ Accepted → length bytes % 2 ≡ 0 → isPlan K counts (pairsOf bytes) ≡ true → auditOf K counts bytes ≡ Yes
     unfolding auditOf
@@ -112,10 +104,10 @@ module _ (K : ℕ) (counts : List ℕ) where
     never h e = false≢true (sym (limit K counts (pairsOf bytes) h) ∙ tests e .2)
 
 -- the bytes of pairs stand for them
-pub pairs-bytes : (pairs : List Pair) → pairsOf (bytesOf pairs) ≡ pairs
+pub pairs-bytes : (pairs : List Pair) → pairsOf (pairBytes pairs) ≡ pairs
 pairs-bytes [] = refl
 pairs-bytes (p ∷ pairs) = ap (λ (ps : List Pair). p ∷ ps) (pairs-bytes pairs)
 
-pub even-bytes : (pairs : List Pair) → length (bytesOf pairs) % 2 ≡ 0
+pub even-bytes : (pairs : List Pair) → length (pairBytes pairs) % 2 ≡ 0
 even-bytes [] = refl
 even-bytes (p ∷ pairs) = omega (arith, even-bytes pairs)

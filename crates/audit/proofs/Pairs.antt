@@ -7,18 +7,18 @@ use native.Mathlib.Nat.{not-suc-le-zero}
 use native.Mathlib.Omega.{arith}
 use borrow.Author.Tests.{le-leb, lt-ltb}
 use lib.Bits.{bitXor}
-use lib.Dec.{eqb}
+use lib.Dec.{eqb, leb·zero}
 use lib.Pow.{pow-mono}
-use lib.ListN.{length, getD, drop}
+use lib.ListN.{length, drop}
 use Rattle.simplex.specs.Shape.{SymbolsInRange, banksOf}
 use Rattle.audit.specs.Plan.{Pair, serves, Serves}
-use Rattle.audit.specs.Audit.{pairsOf}
+use Rattle.audit.specs.Audit.{pairsOf, pairIn}
 use Rattle.audit.proofs.Reading.{serves-sound}
 
 -- ---- the tests, and what they say
 
 pub last-test : (K i a b : ℕ) → 1 ≤ a → a ≤ banksOf K → b ≤ banksOf K → b < a → eqb (bitXor a b) (2 ^ i) ≡ serves K i (record { a = a; b = b })
-last-test K i a b h1 h2 h3 h4 = rw (le-leb 1 a h1, le-leb a (banksOf K) h2, le-leb b (banksOf K) h3, lt-ltb b a h4)
+last-test K i a b h1 h2 h3 h4 = rw (le-leb 1 a h1, le-leb a (banksOf K) h2, le-leb b (banksOf K) h3, lt-ltb b a h4, leb·zero b)
 
 pub not-serving : (K i : ℕ) (p : Pair) → (Serves K i p → ⊥) → false ≡ serves K i p
 not-serving K i p h = by (serves K i p) refl
@@ -31,15 +31,12 @@ not-serving K i p h = by (serves K i p) refl
 pub banks-below : (K i : ℕ) (p : Pair) → SymbolsInRange K → serves K i p ≡ true → (p .a < 64) × (p .b < p .a)
 banks-below K i p k e = let s = serves-sound K i p e in let m = pow-mono (k .most) in omega arith
 
--- ---- the pairs of some bytes: pair n is byte 2n and the byte after it
+-- ---- the pairs of some bytes
 
 pub length-pairs : (bytes : List ℕ) → length (pairsOf bytes) ≡ length bytes / 2
 length-pairs [] = refl
 length-pairs (a ∷ []) = refl
 length-pairs (a ∷ b ∷ bytes) = let ih = length-pairs bytes in omega arith
-
-abbrev pub pairIn : List ℕ → ℕ → Pair
-pairIn bytes n = record { a = getD bytes (n * 2) 0; b = getD bytes (n * 2 + 1) 0 }
 
 pub pair-at : (bytes : List ℕ) (n : ℕ) → n * 2 + 1 < length bytes → drop n (pairsOf bytes) ≡ pairIn bytes n ∷ drop (suc n) (pairsOf bytes)
 pair-at [] n h = absurd (not-suc-le-zero h)

@@ -22,7 +22,7 @@ module _ (K : ℕ) where
   pub serves-sound : (i : ℕ) (p : Pair) → serves K i p ≡ true → Serves K i p
   serves-sound i p e = let t = simp both at e in omega (arith, leb-true, ltb-true, eqb-true)
 
-  pub serves-complete : (i : ℕ) (p : Pair) → Serves K i p → serves K i p ≡ true
+  serves-complete : (i : ℕ) (p : Pair) → Serves K i p → serves K i p ≡ true
   serves-complete i p s = simp both (omega (arith, le-leb, lt-ltb, eq-eqb))
 
   first-rest : (i : ℕ) (reads : List ℕ) (p : Pair) (pairs : List Pair) → servesAll K (i ∷ reads) (p ∷ pairs) ≡ true

@@ -12,11 +12,11 @@ use Rattle.simplex.specs.Code.{Banks}
 use Rattle.simplex.specs.Limit.{total, readsOf}
 use Rattle.simplex.proofs.Requests.{length-reads}
 use Rattle.audit.specs.Plan.{Pair, opens, opened, serves, servesAll, banksOpened, among, noneTwice, isPlan}
-use Rattle.audit.specs.Audit.{pairsOf}
-use Rattle.audit.specs.Parts.{bankTurned}
+use Rattle.audit.specs.Audit.{pairsOf, pairIn}
+use Rattle.audit.specs.Parts.{bankToggled}
 use Rattle.audit.proofs.Reading.{serves-sound}
 use Rattle.audit.proofs.Marks.{Marks, no-marks, more-pair}
-use Rattle.audit.proofs.Pairs.{length-pairs, pairIn, pair-at}
+use Rattle.audit.proofs.Pairs.{length-pairs, pair-at}
 
 -- ---- one pair more, before the others
 
@@ -45,7 +45,7 @@ module _ (K i : ℕ) (p : Pair) (reads : List ℕ) (pairs : List Pair) (used : �
       ∙ shuffle (servesAll K reads pairs) (not (among (p .a) banks)) (not (among (p .b) banks)) (noneTwice banks)
       ∙ rw (w .passed, and-true) (sym (ap₂ (λ (x y : Bool). not x && not y) (w .marks .each (p .a)) (w .marks .each (p .b))))
 
-  more : marked used (p .a) ≡ false → marked used (p .b) ≡ false → Walked K (i ∷ reads) (p ∷ pairs) (bankTurned (bankTurned used (p .b)) (p .a))
+  more : marked used (p .a) ≡ false → marked used (p .b) ≡ false → Walked K (i ∷ reads) (p ∷ pairs) (bankToggled (bankToggled used (p .b)) (p .a))
   more ha hb =
       let s = serves-sound K i p e in
       record { passed = turn ∙ rw (ha, hb); marks = more-pair used (p .a) (p .b) (banksOpened pairs) (s .above) (w .marks) hb ha }
@@ -133,6 +133,6 @@ module _ {K : ℕ} {counts bytes : List ℕ} {m n used i : ℕ} (t : Turn K coun
   second-met e f = no (tests e ∙ simp (f, and-false))
 
   pub one-more : serves K i (pairIn bytes m) ≡ true → marked used (pairIn bytes m .a) ≡ false → marked used (pairIn bytes m .b) ≡ false
-      → From K counts bytes m (bankTurned (bankTurned used (pairIn bytes m .b)) (pairIn bytes m .a))
+      → From K counts bytes m (bankToggled (bankToggled used (pairIn bytes m .b)) (pairIn bytes m .a))
   one-more e ha hb =
       rw (reads-at, pairs-at) (more K i (pairIn bytes m) (drop n (readsOf counts)) (drop n (pairsOf bytes)) used (t .walked) e ha hb)

@@ -2,7 +2,7 @@
 use mathlib.Core.Path.{_≡_}
 use mathlib.Core.Bool.{Bool, true, false, _&&_}
 use mathlib.Core.List.{List, [], _∷_}
-use Prim.Native.Nat.{ℕ, _-_, _%_, _≤_}
+use Prim.Native.Nat.{ℕ, _+_, _-_, _*_, _%_, _≤_}
 use lib.Dec.{leb, eqb}
 use lib.ListN.{length, getD, drop}
 use Rattle.refusals.specs.declared.Verdict.{Verdict}
@@ -36,14 +36,14 @@ pairsOf [] = []
 pairsOf (a ∷ []) = []
 pairsOf (a ∷ b ∷ bytes) = record { a = a; b = b } ∷ pairsOf bytes
 
--- The bytes of some pairs.
-abbrev pub bytesOf : List Pair → List ℕ
-bytesOf [] = []
-bytesOf (p ∷ pairs) = p .a ∷ p .b ∷ bytesOf pairs
+-- Pair n of them: byte 2n and the byte after it.
+abbrev pub pairIn : List ℕ → ℕ → Pair
+pairIn bytes n = record { a = getD bytes (n * 2) 0; b = getD bytes (n * 2 + 1) 0 }
 
--- An odd count of bytes is no plan.
-abbrev pub isPlanOf : ℕ → List ℕ → List ℕ → Bool
-isPlanOf K counts bytes = eqb (length bytes % 2) 0 && isPlan K counts (pairsOf bytes)
+-- The bytes of some pairs.
+abbrev pub pairBytes : List Pair → List ℕ
+pairBytes [] = []
+pairBytes (p ∷ pairs) = p .a ∷ p .b ∷ pairBytes pairs
 
 -- A refusal, or else yes or no.
 abbrev pub answer : Verdict → Bool → Audited
@@ -51,9 +51,9 @@ answer Accepted true = Yes
 answer Accepted false = No
 answer (Refused number place) plan = NotAudited number place
 
--- What the audit answers: a refusal, or yes exactly if the bytes are a plan.
+-- What the audit answers: a refusal, or yes exactly if the bytes are an even count and their pairs a plan.
 unfoldable pub auditOf : ℕ → List ℕ → List ℕ → Audited
-auditOf K counts bytes = answer (countsRefusal K counts) (isPlanOf K counts bytes)
+auditOf K counts bytes = answer (countsRefusal K counts) (eqb (length bytes % 2) 0 && isPlan K counts (pairsOf bytes))
 
 -- When it says yes, in words.
 pub record PlanIn (K : ℕ) (counts bytes : List ℕ) : Type 0 where

@@ -1,4 +1,4 @@
--- What holds of every plan: for every K, but for the count of pairs.
+-- Laws of plans and of the audit, for every K; `few` alone asks that K is at most 5.
 use mathlib.Core.Path.{_≡_}
 use mathlib.Core.Logic.{_↔_}
 use mathlib.Core.Bool.{true, false}

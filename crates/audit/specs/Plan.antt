@@ -4,8 +4,9 @@ use mathlib.Core.Bool.{Bool, true, false, not, _&&_, _||_}
 use mathlib.Core.List.{List, [], _∷_, _++_}
 use Prim.Native.Nat.{ℕ, zero, suc, _+_, _^_, _≤_, _<_}
 use lib.Bits.{bitXor}
-use lib.Dec.{leb, ltb, eqb}
+use lib.Dec.{ltb, eqb}
 use lib.ListN.{length, getD, take}
+use Rattle.refusals.specs.Verdict.{between}
 use Rattle.simplex.specs.Shape.{banksOf}
 use Rattle.simplex.specs.Code.{Banks}
 use Rattle.simplex.specs.Limit.{total, readsOf, In}
@@ -15,10 +16,11 @@ pub record Pair : Type 0 where
   pub a : ℕ
   pub b : ℕ
 
+-- What is given where a list of pairs has none.
 abbrev pub noPair : Pair
 noPair = record { a = 0; b = 0 }
 
--- The banks that it opens.
+-- The banks that a pair opens.
 abbrev pub opens : ℕ → ℕ → Banks
 opens a zero = a ∷ []
 opens a (suc b) = a ∷ suc b ∷ []
@@ -28,7 +30,8 @@ opened p = opens (p .a) (p .b)
 
 -- The pair serves symbol i: a is 1 to N and b is 0 to N, a > b, and a XOR b = 2^i.
 abbrev pub serves : (K i : ℕ) → Pair → Bool
-serves K i p = leb 1 (p .a) && (leb (p .a) (banksOf K) && (leb (p .b) (banksOf K) && (ltb (p .b) (p .a) && eqb (bitXor (p .a) (p .b)) (2 ^ i))))
+serves K i p =
+    between 1 (banksOf K) (p .a) && between 0 (banksOf K) (p .b) && ltb (p .b) (p .a) && eqb (bitXor (p .a) (p .b)) (2 ^ i)
 
 -- One pair for each read, in the order of the reads.
 abbrev pub servesAll : ℕ → List ℕ → List Pair → Bool
@@ -56,7 +59,7 @@ noneTwice (b ∷ banks) = not (among b banks) && noneTwice banks
 unfoldable pub isPlan : ℕ → List ℕ → List Pair → Bool
 isPlan K counts pairs = servesAll K (readsOf counts) pairs && noneTwice (banksOpened pairs)
 
--- The same in words.
+-- The same in words. A pair that serves symbol i:
 pub record Serves (K i : ℕ) (p : Pair) : Type 0 where
   pub first-from : 1 ≤ p .a
   pub first-to : p .a ≤ banksOf K
@@ -68,6 +71,7 @@ pub record Serves (K i : ℕ) (p : Pair) : Type 0 where
 abbrev pub start : List ℕ → ℕ → ℕ
 start counts i = total (take i counts)
 
+-- Pair n of a list, from 0.
 abbrev pub pairAt : List Pair → ℕ → Pair
 pairAt pairs n = getD pairs n noPair
 

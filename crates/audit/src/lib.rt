@@ -1,4 +1,4 @@
-// What a plan is, and its audit.
+// The judging of a request's counts, and the audit of a plan.
 ghost use mathlib.Core.Path.{_≡_};
 ghost use Prim.Native.Nat.{_*_, _<_};
 ghost use lib.ListN.{length, getD};
@@ -6,7 +6,7 @@ ghost use Rattle.simplex.specs.Shape.{SymbolsInRange, mostSymbols};
 ghost use Rattle.simplex.specs.Limit.{total, readsOf};
 ghost use Rattle.audit.specs.Plan.{serves, isPlan};
 ghost use Rattle.audit.specs.Audit.{countsRefusal, restOf, pairsOf, auditOf};
-ghost use Rattle.audit.specs.Parts.{bankTurned};
+ghost use Rattle.audit.specs.Parts.{bankToggled};
 ghost use Rattle.audit.specs.Laws.{ThePlans};
 use refusals::Verdict;
 use simplex::LEAST_SYMBOLS;
@@ -82,6 +82,7 @@ fn symbol_of(counts: [usize; MOST_SYMBOLS], n: usize) -> usize
         ahead -= c;
         i += 1;
     }
+    // Not reached: n is below the total.
     i
 }
 
@@ -97,18 +98,19 @@ fn serves_symbol(k: usize, i: usize, a: usize, b: usize) -> bool
     a ^ b == 1 << i
 }
 
-// The marks with that of bank b turned. Bank 0 is no bank.
-fn turn_bank(set: u64, b: usize) -> u64
+// The marks with that of bank b toggled. Bank 0 is no bank.
+fn toggle_bank(set: u64, b: usize) -> u64
     requires { ⌜ b < 64 ⌝ }
-    ensures { λ r. ⌜ r ≡ bankTurned set b ⌝ }
+    ensures { λ r. ⌜ r ≡ bankToggled set b ⌝ }
 {
     if b == 0 {
         return set;
     }
-    bits::turn(set, b)
+    bits::toggle(set, b)
 }
 
-// The pairs are gone through from the last to the first. Bank b is marked in `used` where a pair after the one at hand opens it.
+// Whether the bytes, two for each read, are a plan for the counts. From the last pair to the first, since the test of a list is that of its
+// first pair and of the rest: bank b is marked in `used` where a pair after the one at hand opens it.
 fn audit_pairs(k: usize, counts: [usize; MOST_SYMBOLS], bytes: &[u8]) -> bool
     requires { ⌜ SymbolsInRange k ⌝ }
     requires { ⌜ length (now bytes) ≡ total counts * 2 ⌝ }
@@ -126,7 +128,7 @@ fn audit_pairs(k: usize, counts: [usize; MOST_SYMBOLS], bytes: &[u8]) -> bool
         if bits::is_marked(used, a) || bits::is_marked(used, b) {
             return false;
         }
-        used = turn_bank(turn_bank(used, b), a);
+        used = toggle_bank(toggle_bank(used, b), a);
     }
     true
 }

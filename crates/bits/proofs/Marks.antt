@@ -1,9 +1,9 @@
--- Laws of marks: one turned, the others left alone, none from a number on, and how many they are.
+-- Laws of marks: one toggled, the others left alone, none from a number on, and how many they are.
 use mathlib.Core.Path.{_≡_, refl, sym, ap, ap₂, _∙_}
 use mathlib.Core.Logic.{_≢_, ⊎-elim}
 use mathlib.Core.Bool.{Bool, true, false, not, cond}
 use Prim.Native.Nat.{ℕ, zero, suc, _+_, _-_, _*_, _/_, _%_, _^_, _≤_, _<_}
-use native.Mathlib.Nat.{div-self, div-eq-of-lt, one-mul, pow-suc, eq-or-lt-of-le, le-of-suc-le-suc, mod-lt, mod-eq-of-lt, mod-one, add-zero}
+use native.Mathlib.Nat.{div-eq-of-lt, one-mul, eq-or-lt-of-le, le-of-suc-le-suc, mod-lt, mod-eq-of-lt, mod-one, add-zero, zero-add}
 use native.Mathlib.Omega.{arith}
 use borrow.Author.Tests.{eq-eqb, eqb-true, eqb-false}
 use lib.Arith.{bin-ind}
@@ -12,37 +12,34 @@ use lib.Count.{ones, ones-cat}
 use lib.Dec.{eqb, lit<}
 use lib.Pow.{pow-pos, pow-lt, shl-exact, shr-shr, mod-pow-add}
 use Rattle.bits.specs.Bits.{bit}
-use Rattle.bits.specs.Marks.{marked, turned, noneFrom, howMany}
+use Rattle.bits.specs.Marks.{marked, toggled, noneFrom, howMany}
 use Rattle.bits.proofs.Digits.{digit, low-lt, xor-low}
-use Rattle.bits.proofs.Bits.{bit-half, bit-zero}
+use Rattle.bits.proofs.Bits.{bit-half, bit-zero, bit-added, bit-other}
 
--- ---- one mark turned
+-- ---- one mark toggled
 
 -- 2^i has bit i alone
 power-itself : (i : ℕ) → bit (2 ^ i) i ≡ 1
-power-itself i = rw (div-self (pow-pos i))
+power-itself i = rw (zero-add (2 ^ i)) at (bit-added 0 i (bit-zero i))
 
 power-other : (i j : ℕ) → i ≢ j → bit (2 ^ i) j ≡ 0
-power-other zero zero ne = absurd (ne refl)
-power-other zero (suc j) ne = bit-half 1 j (omega arith) ∙ bit-zero j
-power-other (suc i) zero ne = omega (arith, pow-suc 2 i)
-power-other (suc i) (suc j) ne = bit-half (2 ^ suc i) j (omega (arith, pow-suc 2 i)) ∙ power-other i j (λ e. ne (ap suc e))
+power-other i j ne = rw (zero-add (2 ^ i)) at (bit-other 0 i j (bit-zero i) (λ e. ne (sym e)) ∙ bit-zero j)
 
-bit-turned : (set i j : ℕ) → bit (turned set i) j ≡ bitXor (bit set j) (bit (2 ^ i) j)
-bit-turned set i j = ap (λ (n : ℕ). n % 2) (xor-shr set (2 ^ i) j) ∙ xor-low (set / 2 ^ j) (2 ^ i / 2 ^ j)
+bit-toggled : (set i j : ℕ) → bit (toggled set i) j ≡ bitXor (bit set j) (bit (2 ^ i) j)
+bit-toggled set i j = ap (λ (n : ℕ). n % 2) (xor-shr set (2 ^ i) j) ∙ xor-low (set / 2 ^ j) (2 ^ i / 2 ^ j)
 
-pub turned-itself : (set i : ℕ) → marked (turned set i) i ≡ not (marked set i)
-turned-itself set i =
-    ap (λ (d : ℕ). eqb d 1) (bit-turned set i i ∙ ap (bitXor (bit set i)) (power-itself i))
+pub toggled-itself : (set i : ℕ) → marked (toggled set i) i ≡ not (marked set i)
+toggled-itself set i =
+    ap (λ (d : ℕ). eqb d 1) (bit-toggled set i i ∙ ap (bitXor (bit set i)) (power-itself i))
     ∙ digit (λ (d : ℕ). eqb (bitXor d 1) 1 ≡ not (eqb d 1)) refl refl (bit set i) (low-lt (set / 2 ^ i))
 
-pub turned-other : (set i j : ℕ) → i ≢ j → marked (turned set i) j ≡ marked set j
-turned-other set i j ne = ap (λ (d : ℕ). eqb d 1) (bit-turned set i j ∙ ap (bitXor (bit set j)) (power-other i j ne) ∙ xor-zero-r (bit set j))
+pub toggled-other : (set i j : ℕ) → i ≢ j → marked (toggled set i) j ≡ marked set j
+toggled-other set i j ne = ap (λ (d : ℕ). eqb d 1) (bit-toggled set i j ∙ ap (bitXor (bit set j)) (power-other i j ne) ∙ xor-zero-r (bit set j))
 
 -- ---- none from a number on
 
-pub turned-below : (set i n : ℕ) → i < n → noneFrom set n ≡ true → noneFrom (turned set i) n ≡ true
-turned-below set i n l e =
+pub toggled-below : (set i n : ℕ) → i < n → noneFrom set n ≡ true → noneFrom (toggled set i) n ≡ true
+toggled-below set i n l e =
     eq-eqb _ _ (xor-shr set (2 ^ i) n ∙ ap₂ bitXor (eqb-true (set / 2 ^ n) 0 e) (div-eq-of-lt (pow-lt l)))
 
 bit-shr : (set n i : ℕ) → bit (set / 2 ^ n) i ≡ bit set (n + i)

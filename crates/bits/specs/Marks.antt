@@ -11,9 +11,9 @@ use Rattle.bits.specs.Bits.{bit}
 abbrev pub marked : ℕ → ℕ → Bool
 marked set i = eqb (bit set i) 1
 
--- The set with i's mark turned: put in where it was not there, taken out where it was.
-abbrev pub turned : ℕ → ℕ → ℕ
-turned set i = bitXor set (2 ^ i)
+-- The set with i's mark toggled: put in where it was not there, taken out where it was.
+abbrev pub toggled : ℕ → ℕ → ℕ
+toggled set i = bitXor set (2 ^ i)
 
 -- Whether nothing from n on is marked.
 abbrev pub noneFrom : ℕ → ℕ → Bool
@@ -24,11 +24,12 @@ abbrev pub howMany : (ℕ → Bool) → ℕ → ℕ
 howMany test zero = 0
 howMany test (suc n) = howMany test n + cond (test n) 1 0
 
--- itself: turning i's mark turns that of i. others: it leaves every other. below: it marks nothing from n on, if i is below n and nothing was.
+-- itself: toggling i's mark toggles that of i. others: it leaves every other.
+-- below: where nothing from n on is marked and i is below n, toggling i's mark leaves it so.
 -- none: `noneFrom`, mark by mark. count: where nothing from n on is marked, counting the marks below a larger number finds no more.
 pub record TheMarks : Type 0 where
-  pub itself : (set i : ℕ) → marked (turned set i) i ≡ not (marked set i)
-  pub others : (set i j : ℕ) → i ≢ j → marked (turned set i) j ≡ marked set j
-  pub below : (set i n : ℕ) → i < n → noneFrom set n ≡ true → noneFrom (turned set i) n ≡ true
+  pub itself : (set i : ℕ) → marked (toggled set i) i ≡ not (marked set i)
+  pub others : (set i j : ℕ) → i ≢ j → marked (toggled set i) j ≡ marked set j
+  pub below : (set i n : ℕ) → i < n → noneFrom set n ≡ true → noneFrom (toggled set i) n ≡ true
   pub none : (set n : ℕ) → (noneFrom set n ≡ true) ↔ ((i : ℕ) → n ≤ i → marked set i ≡ false)
   pub count : (set n w : ℕ) → n ≤ w → noneFrom set n ≡ true → howMany (marked set) w ≡ howMany (marked set) n

@@ -1,7 +1,7 @@
 // Sets of numbers below 64, as marks in one word.
 ghost use mathlib.Core.Path.{_≡_};
 ghost use Prim.Native.Nat.{_≤_, _<_};
-ghost use Rattle.bits.specs.Marks.{marked, turned, noneFrom, howMany, TheMarks};
+ghost use Rattle.bits.specs.Marks.{marked, toggled, noneFrom, howMany, TheMarks};
 
 // How many numbers a word has marks for.
 const MARKS: usize = 64;
@@ -19,10 +19,10 @@ pub fn is_marked(set: u64, i: usize) -> bool
     (set >> i) % 2 == 1
 }
 
-// The set with the mark of `i` turned.
-pub fn turn(set: u64, i: usize) -> u64
+// The set with the mark of `i` toggled.
+pub fn toggle(set: u64, i: usize) -> u64
     requires { ⌜ i < 64 ⌝ }
-    ensures { λ r. ⌜ r ≡ turned set i ⌝ }
+    ensures { λ r. ⌜ r ≡ toggled set i ⌝ }
 {
     set ^ (1 << i)
 }
@@ -32,6 +32,7 @@ pub fn none_from(set: u64, n: usize) -> bool
     requires { ⌜ n ≤ 64 ⌝ }
     ensures { λ r. ⌜ r ≡ noneFrom set n ⌝ }
 {
+    // The machine has no shift by a word's whole width.
     if n == MARKS {
         return true;
     }

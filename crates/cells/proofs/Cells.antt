@@ -42,7 +42,7 @@ past (x ∷ s) zero (y ∷ c) (suc j) h = past s zero c j (rw (zero-add (length 
 pub getD-put-out : (s : List ℕ) (at : ℕ) (c : List ℕ) (j : ℕ) → Outside (length c) at j → getD (put s at c) j 0 ≡ getD s j 0
 getD-put-out s at c j out = ⊎-elim (below s at c j) (past s at c j) out
 
-pub getD-put-in : (s : List ℕ) (at : ℕ) (c : List ℕ) (j : ℕ) → j < length c → at + j < length s → getD (put s at c) (at + j) 0 ≡ getD c j 0
+getD-put-in : (s : List ℕ) (at : ℕ) (c : List ℕ) (j : ℕ) → j < length c → at + j < length s → getD (put s at c) (at + j) 0 ≡ getD c j 0
 unfolding put
 getD-put-in [] at c j h l = absurd (not-suc-le-zero l)
 getD-put-in (x ∷ s) (suc at) c j h l = rw (suc-add at j) (getD-put-in s at c j h (le-of-suc-le-suc (rw (suc-add at j) at l)))

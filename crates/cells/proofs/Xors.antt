@@ -14,7 +14,7 @@ assoc (x ∷ p) [] r = refl
 assoc (x ∷ p) (y ∷ q) [] = refl
 assoc (x ∷ p) (y ∷ q) (z ∷ r) = ap₂ {C = List ℕ} (λ a t. a ∷ t) (xor-assoc x y z) (assoc p q r)
 
-pub comm : (p q : List ℕ) → xorBytes p q ≡ xorBytes q p
+comm : (p q : List ℕ) → xorBytes p q ≡ xorBytes q p
 comm [] [] = refl
 comm [] (y ∷ q) = refl
 comm (x ∷ p) [] = refl

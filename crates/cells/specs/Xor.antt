@@ -10,7 +10,7 @@ xorBytes [] q = []
 xorBytes (x ∷ p) [] = []
 xorBytes (x ∷ p) (y ∷ q) = bitXor x y ∷ xorBytes p q
 
--- p bytes 0: the XOR of no cells.
+-- p bytes, all 0: the XOR of no cells.
 abbrev pub zeros : ℕ → List ℕ
 zeros p = replicate p 0
 

@@ -1,4 +1,4 @@
-// The leaves on bytes: each sets one cell of a slice, or all of it.
+// Functions on bytes: each sets one cell of a slice, or the whole slice.
 ghost use mathlib.Core.Path.{_≡_};
 ghost use mathlib.Core.Logic.{_⊎_};
 ghost use Prim.Native.Nat.{_+_, _≤_};

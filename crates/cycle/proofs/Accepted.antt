@@ -8,7 +8,7 @@ use borrow.Author.Tests.{ltb-true, leb-true, eqb-true, lt-ltb, le-leb, eq-eqb}
 use lib.Dec.{eqb}
 use lib.ListN.{length}
 use Rattle.refusals.specs.declared.Verdict.the-variants.{Accepted}
-use Rattle.refusals.specs.Verdict.{first}
+use Rattle.refusals.specs.Verdict.{firstRefusal}
 use Rattle.refusals.proofs.Verdicts.{checks, all-accepted, accepted-all, first-same, both}
 use Rattle.simplex.specs.Shape.{mostPairs}
 use Rattle.simplex.specs.Limit.{total}
@@ -27,7 +27,7 @@ pub record Accepts (sh : Shape) (full : ℕ → Bool) (reads : List ℕ) (out sc
   pub out-size : out ≡ readCount reads * sh .p
   pub schedule-size : schedule ≡ readCount reads * 2
 
-pub accepted-few : (sh : Shape) (reads : List ℕ) → first (groupRefusal sh reads) (sh .m) ≡ Accepted → Few sh reads
+pub accepted-few : (sh : Shape) (reads : List ℕ) → firstRefusal (groupRefusal sh reads) (sh .m) ≡ Accepted → Few sh reads
 accepted-few sh reads e x l = let a = all-accepted (groupRefusal sh reads) (sh .m) e x l in search (checks, leb-true)
 
 -- a plan's pairs have room in its arrays
@@ -40,7 +40,7 @@ pub form-named : (sh : Shape) (reads : List ℕ) (n : ℕ) → formRefusal sh re
 form-named sh reads n e = search (checks, ltb-true)
 
 module _ (sh : Shape) (full : ℕ → Bool) (reads : List ℕ) where
-  module _ (e : first (readRefusal sh full reads) (readCount reads) ≡ Accepted) (n : ℕ) (l : n < readCount reads) where
+  module _ (e : firstRefusal (readRefusal sh full reads) (readCount reads) ≡ Accepted) (n : ℕ) (l : n < readCount reads) where
     read-accepted : readRefusal sh full reads n ≡ Accepted
     read-accepted = all-accepted (readRefusal sh full reads) (readCount reads) e n l
 
@@ -54,8 +54,8 @@ module _ (sh : Shape) (full : ℕ → Bool) (reads : List ℕ) where
     pub accepts : listRefusal sh full reads out schedule ≡ Accepted → Accepts sh full reads out schedule
     unfolding listRefusal
     accepts e =
-        let each : first (readRefusal sh full reads) (readCount reads) ≡ Accepted = search checks in
-        let groups : first (groupRefusal sh reads) (sh .m) ≡ Accepted = search checks in
+        let each : firstRefusal (readRefusal sh full reads) (readCount reads) ≡ Accepted = search checks in
+        let groups : firstRefusal (groupRefusal sh reads) (sh .m) ≡ Accepted = search checks in
         let sizes : (eqb out (readCount reads * sh .p) && eqb schedule (readCount reads * 2)) ≡ true = search checks in
         let whole : length reads % 3 ≡ 0 = search (checks, eqb-true) in
         let fit = both _ _ .0 sizes in
@@ -71,9 +71,9 @@ module _ (sh : Shape) (full : ℕ → Bool) (reads : List ℕ) where
     pub accepted : Accepts sh full reads out schedule → listRefusal sh full reads out schedule ≡ Accepted
     unfolding listRefusal
     accepted a =
-        let each : first (readRefusal sh full reads) (readCount reads) ≡ Accepted =
+        let each : firstRefusal (readRefusal sh full reads) (readCount reads) ≡ Accepted =
         accepted-all _ _ (λ n l. let f = a .named n l in rw (lt-ltb _ _ (f .0), lt-ltb _ _ (f .1), lt-ltb _ _ (f .2), a .rows-full n l)) in
-        let groups : first (groupRefusal sh reads) (sh .m) ≡ Accepted = accepted-all _ _ (λ x l. rw (le-leb _ _ (a .few x l))) in
+        let groups : firstRefusal (groupRefusal sh reads) (sh .m) ≡ Accepted = accepted-all _ _ (λ x l. rw (le-leb _ _ (a .few x l))) in
         rw (eq-eqb _ _ (a .whole), each, groups, eq-eqb _ _ (a .out-size), eq-eqb _ _ (a .schedule-size))
 
 -- rows that are full alike are judged alike

@@ -12,7 +12,7 @@ use lib.ListN.{length, getD, replicate}
 use Rattle.bits.proofs.Marks.{none-passed}
 use Rattle.refusals.specs.declared.Verdict.{Verdict}
 use Rattle.refusals.specs.declared.Verdict.the-variants.{Accepted, Refused}
-use Rattle.refusals.specs.Verdict.{check, first}
+use Rattle.refusals.specs.Verdict.{check, firstRefusal}
 use Rattle.refusals.proofs.Verdicts.{check-passed, check-refused}
 use Rattle.cells.specs.Cell.{put, putEach}
 use Rattle.cells.proofs.Cells.{getD-cell}
@@ -108,7 +108,7 @@ module _ (sh : Shape) (reads : List ℕ) (range : InRange sh) (named : Named sh 
 
   -- ---- no group is refused
 
-  module _ (fine : first (groupRefusal sh reads) (sh .m) ≡ Accepted) where
+  module _ (fine : firstRefusal (groupRefusal sh reads) (sh .m) ≡ Accepted) where
     few : (x : ℕ) → x < sh .m → total (countsOf reads x) ≤ mostPairs
     few = few-pairs sh reads range (accepted-few sh reads fine)
 

@@ -7,7 +7,7 @@ use borrow.Author.Tests.{lt-ltb, le-ltb}
 use lib.Dec.{eqb}
 use lib.ListN.{length}
 use Rattle.refusals.specs.declared.Verdict.the-variants.{Accepted, Refused}
-use Rattle.refusals.specs.Verdict.{first}
+use Rattle.refusals.specs.Verdict.{firstRefusal}
 use Rattle.layout.specs.declared.Shape.{Shape}
 use Rattle.cycle.specs.Reads.{readCount, row, group, symbol}
 use Rattle.cycle.specs.Cycle.{readRefusal, groupRefusal, bufferRefusal, listRefusal}
@@ -53,17 +53,17 @@ module _ (sh : Shape) (full : ℕ → Bool) (reads : List ℕ) where
     not-whole e = rw e
 
     module _ (whole : eqb (length reads % 3) 0 ≡ true) where
-      pub by-read : (number place : ℕ) → first (readRefusal sh full reads) (readCount reads) ≡ Refused number place
+      pub by-read : (number place : ℕ) → firstRefusal (readRefusal sh full reads) (readCount reads) ≡ Refused number place
           → Refused number place ≡ listRefusal sh full reads out schedule
       unfolding listRefusal
       by-read number place e = rw (whole, e)
 
-      module _ (each-read : first (readRefusal sh full reads) (readCount reads) ≡ Accepted) where
-        pub by-group : (number place : ℕ) → first (groupRefusal sh reads) (sh .m) ≡ Refused number place
+      module _ (each-read : firstRefusal (readRefusal sh full reads) (readCount reads) ≡ Accepted) where
+        pub by-group : (number place : ℕ) → firstRefusal (groupRefusal sh reads) (sh .m) ≡ Refused number place
             → Refused number place ≡ listRefusal sh full reads out schedule
         unfolding listRefusal
         by-group number place e = rw (whole, each-read, e)
 
-        pub by-buffers : first (groupRefusal sh reads) (sh .m) ≡ Accepted → bufferRefusal sh reads out schedule ≡ listRefusal sh full reads out schedule
+        pub by-buffers : firstRefusal (groupRefusal sh reads) (sh .m) ≡ Accepted → bufferRefusal sh reads out schedule ≡ listRefusal sh full reads out schedule
         unfolding listRefusal
         by-buffers e = rw (whole, each-read, e)

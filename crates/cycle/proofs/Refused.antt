@@ -9,7 +9,7 @@ use borrow.Author.Tests.{leb-true, leb-false}
 use lib.Dec.{ltb, leb, eqb}
 use lib.ListN.{length}
 use Rattle.refusals.specs.declared.Verdict.the-variants.{Refused}
-use Rattle.refusals.specs.Verdict.{check, first}
+use Rattle.refusals.specs.Verdict.{check, firstRefusal}
 use Rattle.refusals.proofs.Verdicts.{check-passed, check-refused, first-refused, then-refused, Never, never-check, never-then, never-first, skips}
 use Rattle.simplex.specs.Shape.{limitOf}
 use Rattle.simplex.specs.Limit.{total}
@@ -35,7 +35,7 @@ module _ (sh : Shape) (full : ℕ → Bool) (reads : List ℕ) where
       let is-full = never-check 12 9 n (full (row reads n)) (λ e. omega arith) in
       never-then 12 (formRefusal sh reads n) _ (never-then 12 _ _ in-row (never-then 12 _ _ in-group in-symbol)) is-full
 
-  groups-over : (x : ℕ) → Named sh reads → first (groupRefusal sh reads) (sh .m) ≡ Refused 12 x → Over sh reads x
+  groups-over : (x : ℕ) → Named sh reads → firstRefusal (groupRefusal sh reads) (sh .m) ≡ Refused 12 x → Over sh reads x
   groups-over x named e =
       let t = first-refused (groupRefusal sh reads) (sh .m) 12 x e in
       let c = check-refused 12 (t .0) (leb (total (countsOf reads (t .0))) (limitOf (sh .k))) 12 x (t .2) in
@@ -50,8 +50,8 @@ module _ (sh : Shape) (full : ℕ → Bool) (reads : List ℕ) where
   unfolding listRefusal
   over out schedule x e =
       let list = skips 12 (check 13 0 (eqb (length reads % 3) 0)) _ x (never-check 12 13 0 (eqb (length reads % 3) 0) (λ z. omega arith)) e .1 in
-      let each = skips 12 (first (readRefusal sh full reads) (readCount reads)) _ x (never-first 12 (readRefusal sh full reads) (readCount reads) read-never) list in
+      let each = skips 12 (firstRefusal (readRefusal sh full reads) (readCount reads)) _ x (never-first 12 (readRefusal sh full reads) (readCount reads) read-never) list in
       ⊎-elim
       (groups-over x (accepted-named sh full reads (each .0)))
       (λ r. absurd (never-check 12 16 0 (eqb out (readCount reads * sh .p) && eqb schedule (readCount reads * 2)) (λ z. omega arith) x (r .1)))
-      (then-refused (first (groupRefusal sh reads) (sh .m)) (bufferRefusal sh reads out schedule) 12 x (each .1))
+      (then-refused (firstRefusal (groupRefusal sh reads) (sh .m)) (bufferRefusal sh reads out schedule) 12 x (each .1))

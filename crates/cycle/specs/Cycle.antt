@@ -5,7 +5,7 @@ use Prim.Native.Nat.{ℕ, _+_, _*_, _%_}
 use lib.Dec.{leb, ltb, eqb}
 use lib.ListN.{length}
 use Rattle.refusals.specs.declared.Verdict.{Verdict}
-use Rattle.refusals.specs.Verdict.{check, _then_, first}
+use Rattle.refusals.specs.Verdict.{check, _then_, firstRefusal}
 use Rattle.cells.specs.Cell.{putEach}
 use Rattle.cells.specs.Xor.{xorAll}
 use Rattle.simplex.specs.Shape.{limitOf}
@@ -44,8 +44,8 @@ bufferRefusal sh reads out schedule = check 16 0 (eqb out (readCount reads * sh 
 unfoldable pub listRefusal : Shape → (full : ℕ → Bool) → List ℕ → (out schedule : ℕ) → Verdict
 listRefusal sh full reads out schedule =
     lengthRefusal reads
-    then first (readRefusal sh full reads) (readCount reads)
-    then first (groupRefusal sh reads) (sh .m)
+    then firstRefusal (readRefusal sh full reads) (readCount reads)
+    then firstRefusal (groupRefusal sh reads) (sh .m)
     then bufferRefusal sh reads out schedule
 
 -- ---- what a cycle that is not refused puts out

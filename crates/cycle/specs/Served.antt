@@ -1,14 +1,13 @@
 -- What it is for the reads of a cycle to be served: by what stands in the schedule and the output, whoever wrote it there, and by the audit.
 use mathlib.Core.Path.{_≡_}
 use mathlib.Core.List.{List}
-use Prim.Native.Nat.{ℕ, _+_, _*_, _<_}
-use lib.ListN.{getD}
+use Prim.Native.Nat.{ℕ, _*_, _<_}
 use Rattle.cells.specs.Cell.{cell}
 use Rattle.simplex.specs.Code.{Yields}
 use Rattle.simplex.specs.Limit.{In}
 use Rattle.audit.specs.declared.Audited.the-variants.{Yes}
 use Rattle.audit.specs.Plan.{Pair, opened, Serves}
-use Rattle.audit.specs.Audit.{bytesOf, auditOf}
+use Rattle.audit.specs.Audit.{pairIn, pairBytes, auditOf}
 use Rattle.plan.specs.Finding.{planOf}
 use Rattle.layout.specs.declared.Shape.{Shape}
 use Rattle.cycle.specs.Reads.{readCount, row, group, symbol, countsOf}
@@ -16,7 +15,7 @@ use Rattle.cycle.specs.Cycle.{xorOfCells}
 
 -- Line n of a schedule.
 abbrev pub line : List ℕ → ℕ → Pair
-line schedule n = record { a = getD schedule (n * 2) 0; b = getD schedule (n * 2 + 1) 0 }
+line schedule n = pairIn schedule n
 
 -- pair: the line of read n is a pair (a, b) in its ranges with a > b and a XOR b = 2^i for its symbol i.
 -- packet: the output holds in its place the XOR of just those banks' cells in its own group and row.
@@ -28,7 +27,7 @@ pub record ServedRead (sh : Shape) (s reads out schedule : List ℕ) (n : ℕ) :
 
 -- The audit says yes to the plan of each group.
 abbrev pub PlansAudited : Shape → List ℕ → Type 0
-PlansAudited sh reads = (x : ℕ) → x < sh .m → auditOf (sh .k) (countsOf reads x) (bytesOf (planOf (sh .k) (countsOf reads x))) ≡ Yes
+PlansAudited sh reads = (x : ℕ) → x < sh .m → auditOf (sh .k) (countsOf reads x) (pairBytes (planOf (sh .k) (countsOf reads x))) ≡ Yes
 
 -- No bank, which is a group and a number, stands in the lines of two reads, whichever rows they name.
 abbrev pub OpenedOnce : (reads schedule : List ℕ) → Type 0

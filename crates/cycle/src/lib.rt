@@ -7,7 +7,7 @@ ghost use lib.Dec.{eqb};
 ghost use lib.ListN.{length, getD};
 ghost use Rattle.bits.specs.Marks.{marked};
 ghost use Rattle.refusals.specs.declared.Verdict.the-variants.{Accepted};
-ghost use Rattle.refusals.specs.Verdict.{ifRefused, first};
+ghost use Rattle.refusals.specs.Verdict.{ifRefused, firstRefusal};
 ghost use Rattle.cells.specs.Cell.{put};
 ghost use Rattle.simplex.specs.Shape.{mostSymbols, mostPairs};
 ghost use Rattle.audit.specs.Plan.{opens, start};
@@ -77,7 +77,7 @@ fn judge_read(shape: Shape, full: u64, reads: &[u8], n: usize) -> Verdict
 // The first refusal of a read.
 fn judge_reads(shape: Shape, full: u64, reads: &[u8]) -> Verdict
     requires { ⌜ InRange shape ⌝ }
-    ensures { λ r. ⌜ r ≡ first (readRefusal shape (marked full) (now (reads .entry))) (readCount (now (reads .entry))) ⌝ }
+    ensures { λ r. ⌜ r ≡ firstRefusal (readRefusal shape (marked full) (now (reads .entry))) (readCount (now (reads .entry))) ⌝ }
 {
     let many = reads.len() / 3;
     let mut n = 0;
@@ -144,7 +144,7 @@ fn starts_of(counts: [usize; ALL_SYMBOLS]) -> [usize; ALL_SYMBOLS]
 // Plans each group of a list; or refuses with 12 and the lowest group that has too many reads.
 fn plan_groups(shape: Shape, reads: &[u8]) -> Planning
     requires { ⌜ InRange shape × Named shape (now reads) ⌝ }
-    ensures verdict { λ r. ⌜ r .verdict ≡ first (groupRefusal shape (now (reads .entry))) (shape .m) ⌝ }
+    ensures verdict { λ r. ⌜ r .verdict ≡ firstRefusal (groupRefusal shape (now (reads .entry))) (shape .m) ⌝ }
     ensures plans { λ r. ⌜ (r .verdict ≡ Accepted → PlansFor shape (now (reads .entry)) (r .plans)) ⌝ }
 {
     let counts = count_reads(reads);
@@ -206,11 +206,11 @@ fn read_packet(
     requires { ⌜ (x < shape .m) × (row < shape .g) × (1 ≤ a) × (a ≤ banks shape) × (b ≤ banks shape) ⌝ }
     ensures { λ _. ⌜ now (out .exit) ≡ put (now (out .entry)) at (xorOfCells shape (now (store .entry)) x row (opens a b)) ⌝ }
 {
-    let from = layout::place_of(shape, x, a, row);
+    let from = layout::offset_of(shape, x, a, row);
     if b == 0 {
         cells::copy_into(out, at, &store[from..from + shape.p]);
     } else {
-        let other = layout::place_of(shape, x, b, row);
+        let other = layout::offset_of(shape, x, b, row);
         cells::xor_cells(out, at, store, from, other, shape.p);
     }
 }

@@ -9,7 +9,7 @@ use lib.Pow.{pow-mono}
 use Rattle.bits.proofs.Marks.{many-most}
 use Rattle.refusals.specs.declared.Verdict.{Verdict}
 use Rattle.refusals.specs.declared.Verdict.the-variants.{Accepted, Refused}
-use Rattle.refusals.specs.Verdict.{check, _then_, first}
+use Rattle.refusals.specs.Verdict.{check, _then_, firstRefusal}
 use Rattle.refusals.proofs.Verdicts.{checks}
 use Rattle.simplex.specs.Shape.{limitOf, mostSymbols, SymbolsInRange}
 use Rattle.layout.specs.declared.Shape.{Shape}
@@ -20,7 +20,7 @@ use Rattle.cycle.specs.Cycle.{listRefusal}
 use Rattle.memory.specs.declared.State.{State}
 use Rattle.memory.specs.declared.Answer.{Answer}
 use Rattle.memory.specs.declared.Answer.the-variants.{Served}
-use Rattle.memory.specs.State.{isFull, fullRows, sound, rowTurned}
+use Rattle.memory.specs.State.{isFull, fullRows, sound, rowToggled}
 use Rattle.memory.specs.Operations.{answerBy, storeRefusal, writeRefusal, writeOutcome, releaseRefusal, releaseOutcome, cycleRefusal, cycleOutcome}
 use Rattle.memory.proofs.States.{sound-words}
 use Rattle.memory.proofs.Accepted.{store-facts, written-facts, released-facts}
@@ -42,9 +42,9 @@ near-then : (v next : Verdict) → Near v → (v ≡ Accepted → Near next) →
 near-then Accepted next a b = b refl
 near-then (Refused number place) next a b = a
 
-near-first : (f : ℕ → Verdict) (n : ℕ) → n ≤ 65536 → ((i : ℕ) → i < 65536 → Near (f i)) → Near (first f n)
+near-first : (f : ℕ → Verdict) (n : ℕ) → n ≤ 65536 → ((i : ℕ) → i < 65536 → Near (f i)) → Near (firstRefusal f n)
 near-first f zero l h = tt
-near-first f (suc n) l h = near-then (first f n) (f n) (near-first f n (omega arith) h) (λ e. h n l)
+near-first f (suc n) l h = near-then (firstRefusal f n) (f n) (near-first f n (omega arith) h) (λ e. h n l)
 
 near-zero : (number : ℕ) (test : Bool) → Near (check number 0 test)
 near-zero number test = near-check number 0 test (omega arith)
@@ -70,8 +70,8 @@ fits-by told (Refused number place) a b = a
 -- ---- the number of full rows
 
 -- there are at most G rows
-few-full : (st : State) (row : ℕ) → sound st ≡ true → fullRows (rowTurned st row) < 256
-few-full st row e = omega (arith, many-most (isFull (rowTurned st row)) (st .shape .g), sound-words st e .ranges .rows)
+few-full : (st : State) (row : ℕ) → sound st ≡ true → fullRows (rowToggled st row) < 256
+few-full st row e = omega (arith, many-most (isFull (rowToggled st row)) (st .shape .g), sound-words st e .ranges .rows)
 
 -- ---- the operations
 

@@ -10,14 +10,14 @@ use Rattle.refusals.specs.Verdict.{between}
 use Rattle.refusals.proofs.Verdicts.{checks, between-words, words-between}
 use Rattle.simplex.specs.Shape.{leastSymbols, mostSymbols, banksOf}
 use Rattle.layout.specs.declared.Shape.{Shape}
-use Rattle.layout.specs.Shape.{mostGroups, mostBytes, mostRows, shapeRefusal, InRange, banks}
+use Rattle.layout.specs.Shape.{mostGroups, mostPacketBytes, mostRows, shapeRefusal, InRange, banks}
 
 pub range-words : (sh : Shape) → shapeRefusal sh ≡ Accepted → InRange sh
 unfolding shapeRefusal
 range-words sh e =
     let k : between leastSymbols mostSymbols (sh .k) ≡ true = search checks in
     let m : between 1 mostGroups (sh .m) ≡ true = search checks in
-    let p : between 1 mostBytes (sh .p) ≡ true = search checks in
+    let p : between 1 mostPacketBytes (sh .p) ≡ true = search checks in
     let g : between 1 mostRows (sh .g) ≡ true = search checks in
     let symbols = between-words _ _ _ k in
     record {
@@ -32,7 +32,7 @@ unfolding shapeRefusal
 words-range sh w = rw (
   words-between leastSymbols mostSymbols (sh .k) (w .symbols .least, w .symbols .most),
   words-between 1 mostGroups (sh .m) (w .groups),
-  words-between 1 mostBytes (sh .p) (w .bytes),
+  words-between 1 mostPacketBytes (sh .p) (w .bytes),
   words-between 1 mostRows (sh .g) (w .rows),
 )
 
@@ -41,14 +41,14 @@ words-range sh w = rw (
 pub few-banks : (sh : Shape) → InRange sh → banks sh ≤ banksOf mostSymbols
 few-banks sh w = let l : 2 ^ sh .k ≤ 2 ^ mostSymbols = pow-mono (w .symbols .most) in omega arith
 
-pub row-bytes : (sh : Shape) → InRange sh → sh .g * sh .p ≤ mostRows * mostBytes
+pub row-bytes : (sh : Shape) → InRange sh → sh .g * sh .p ≤ mostRows * mostPacketBytes
 row-bytes sh w = mul-le-mul (w .rows .1) (w .bytes .1)
 
-pub group-bytes : (sh : Shape) → InRange sh → sh .k * sh .p ≤ mostSymbols * mostBytes
+pub group-bytes : (sh : Shape) → InRange sh → sh .k * sh .p ≤ mostSymbols * mostPacketBytes
 group-bytes sh w = mul-le-mul (w .symbols .most) (w .bytes .1)
 
 -- what is at most most, by rows and bytes
-pub scaled : (sh : Shape) → InRange sh → (n most : ℕ) → n ≤ most → (n * sh .g ≤ most * mostRows) × (n * sh .p ≤ most * mostBytes)
+pub scaled : (sh : Shape) → InRange sh → (n most : ℕ) → n ≤ most → (n * sh .g ≤ most * mostRows) × (n * sh .p ≤ most * mostPacketBytes)
 scaled sh w n most l = (mul-le-mul l (w .rows .1), mul-le-mul l (w .bytes .1))
 
 pub all-banks : (sh : Shape) (x : ℕ) → InRange sh → x ≤ mostGroups → x * banks sh ≤ mostGroups * banksOf mostSymbols

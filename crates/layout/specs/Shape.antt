@@ -12,8 +12,8 @@ use Rattle.layout.specs.declared.Shape.{Shape}
 abbrev pub mostGroups : ℕ
 mostGroups = 8
 
-abbrev pub mostBytes : ℕ
-mostBytes = 2048
+abbrev pub mostPacketBytes : ℕ
+mostPacketBytes = 2048
 
 abbrev pub mostRows : ℕ
 mostRows = 64
@@ -23,14 +23,14 @@ unfoldable pub shapeRefusal : Shape → Verdict
 shapeRefusal sh =
     check 1 0 (between leastSymbols mostSymbols (sh .k))
     then check 2 0 (between 1 mostGroups (sh .m))
-    then check 3 0 (between 1 mostBytes (sh .p))
+    then check 3 0 (between 1 mostPacketBytes (sh .p))
     then check 4 0 (between 1 mostRows (sh .g))
 
 -- Set-up's ranges, in words.
 pub record InRange (sh : Shape) : Type 0 where
   pub symbols : SymbolsInRange (sh .k)
   pub groups : (1 ≤ sh .m) × (sh .m ≤ mostGroups)
-  pub bytes : (1 ≤ sh .p) × (sh .p ≤ mostBytes)
+  pub bytes : (1 ≤ sh .p) × (sh .p ≤ mostPacketBytes)
   pub rows : (1 ≤ sh .g) × (sh .g ≤ mostRows)
 
 -- N, the banks of each group.

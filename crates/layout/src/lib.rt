@@ -9,9 +9,9 @@ use simplex::MOST_SYMBOLS;
 // The most groups, bytes of a packet and rows of a memory.
 pub const MOST_GROUPS: usize = 8;
 
-pub const MOST_BYTES: usize = 2048;
+const MOST_PACKET_BYTES: usize = 2048;
 
-pub const MOST_ROWS: usize = 64;
+const MOST_ROWS: usize = 64;
 
 // K symbols in a group, m groups, P bytes in a packet, G rows.
 pub struct Shape {
@@ -36,7 +36,7 @@ pub fn judge_shape(shape: Shape) -> Verdict
     if !refusals::is_between(1, MOST_GROUPS, shape.m) {
         return Verdict::Refused(2, 0);
     }
-    if !refusals::is_between(1, MOST_BYTES, shape.p) {
+    if !refusals::is_between(1, MOST_PACKET_BYTES, shape.p) {
         return Verdict::Refused(3, 0);
     }
     if !refusals::is_between(1, MOST_ROWS, shape.g) {
@@ -63,7 +63,7 @@ pub fn generation_size(shape: Shape) -> usize
 }
 
 // Where bank b of group x keeps row r.
-pub fn place_of(shape: Shape, x: usize, b: usize, r: usize) -> usize
+pub fn offset_of(shape: Shape, x: usize, b: usize, r: usize) -> usize
     requires { ⌜ InRange shape × CellOf shape x b r ⌝ }
     ensures { λ at. ⌜ at ≡ offset shape x b r ⌝ }
 {

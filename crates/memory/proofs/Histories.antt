@@ -27,14 +27,14 @@ use Rattle.memory.specs.declared.State.{State}
 use Rattle.memory.specs.declared.Outcome.{Outcome}
 use Rattle.memory.specs.declared.Answer.the-variants.{FullRows, Served}
 use Rattle.layout.specs.Shape.{shapeRefusal, storeSize, generationSize, CellOf, cellAt}
-use Rattle.memory.specs.State.{isFull, fullRows, empty, rowTurned, Sound}
+use Rattle.memory.specs.State.{isFull, fullRows, empty, rowToggled, Sound}
 use Rattle.memory.specs.Operations.{answerBy, outcomeBy, packetsIn, packetIn, rowWritten, writeRefusal, releaseRefusal, cycleRefusal, cycleSchedule}
 use Rattle.memory.specs.History.{Operation, write, release, read, History, Memory, outcomeOf, storeAfter, run}
 use Rattle.memory.specs.History.{verdictIn, toldBy, fullBy, writtenBy, fullIn, lastWritten, filledBy, emptiedBy, inAll, Returned, Remembers, AfterAnyHistory}
 use Rattle.layout.proofs.Ranges.{range-words}
 use Rattle.memory.proofs.States.{words-sound}
 use Rattle.memory.proofs.Accepted.{Writable, Releasable, written-facts, released-facts}
-use Rattle.memory.proofs.Turning.{turned-sound, row-filled, row-emptied}
+use Rattle.memory.proofs.Toggling.{toggled-sound, row-filled, row-emptied}
 use Rattle.memory.proofs.Writing.{packet-in, packets-in-sized, row-written, other-rows}
 use Rattle.memory.proofs.Cycles.{serves-all, facts, coded-packet}
 
@@ -91,17 +91,17 @@ module _ (st : State) (s : List ℕ) (full : ℕ → Bool) (last : ℕ → List 
     write-judged = rw (words-sound st (kept .sound), eq-eqb _ _ (kept .size), kept .rows row .mark)
 
     write-keeps : Writable st (length s) row (length generation)
-        → Keeps (st .shape) (fullBy (write row generation) full) (writtenBy (write row generation) last) (rowTurned st row)
+        → Keeps (st .shape) (fullBy (write row generation) full) (writtenBy (write row generation) last) (rowToggled st row)
         (rowWritten (st .shape) row generation s)
     write-keeps w =
         let put = row-written (st .shape) row generation s (w .below) (kept .size) (w .whole) in
         let more = row-filled st row (w .below) (w .empty) in
         record {
           shape = refl;
-          sound = turned-sound st row (kept .sound) (w .below);
+          sound = toggled-sound st row (kept .sound) (w .below);
           size = put .size ∙ kept .size;
           rows = each-row row
-              (λ r t. Row (st .shape) (rowTurned st row) (rowWritten (st .shape) row generation s) r (cond t true (full r))
+              (λ r t. Row (st .shape) (rowToggled st row) (rowWritten (st .shape) row generation s) r (cond t true (full r))
               (cond t generation (last r)))
               (record { mark = more .full; whole = λ _. w .whole; cells = λ x b c _. put .cells x b c })
               (λ r n. record {
@@ -113,7 +113,7 @@ module _ (st : State) (s : List ℕ) (full : ℕ → Bool) (last : ℕ → List 
 
     write-by : (v : Verdict) → writeRefusal st (length s) row (length generation) ≡ v
         → Done (st .shape) (ifRefused full (fullBy (write row generation) full) v) (ifRefused last (writtenBy (write row generation) last) v) v st (write row generation)
-        (outcomeBy st (rowTurned st row) v) (ifRefused s (rowWritten (st .shape) row generation s) v)
+        (outcomeBy st (rowToggled st row) v) (ifRefused s (rowWritten (st .shape) row generation s) v)
     write-by Accepted e =
         let w = written-facts st (length s) row (length generation) e in
         accepted st (write row generation) (λ rows. refl) (write-keeps w) (omega (arith, row-filled st row (w .below) (w .empty) .count))
@@ -125,21 +125,21 @@ module _ (st : State) (s : List ℕ) (full : ℕ → Bool) (last : ℕ → List 
   unfolding releaseRefusal
   release-judged = rw (words-sound st (kept .sound), kept .rows row .mark)
 
-  release-keeps : Releasable st row → Keeps (st .shape) (fullBy (release row) full) (writtenBy (release row) last) (rowTurned st row) s
+  release-keeps : Releasable st row → Keeps (st .shape) (fullBy (release row) full) (writtenBy (release row) last) (rowToggled st row) s
   release-keeps w =
       let fewer = row-emptied st row (w .below) (w .full) in
       record {
         shape = refl;
-        sound = turned-sound st row (kept .sound) (w .below);
+        sound = toggled-sound st row (kept .sound) (w .below);
         size = kept .size;
-        rows = each-row row (λ r t. Row (st .shape) (rowTurned st row) s r (cond t false (full r)) (last r))
+        rows = each-row row (λ r t. Row (st .shape) (rowToggled st row) s r (cond t false (full r)) (last r))
             (empty-row (fewer .empty))
             (λ r n. record { mark = sym (fewer .others r n) ∙ kept .rows r .mark; whole = kept .rows r .whole; cells = kept .rows r .cells });
       }
 
   release-by : (v : Verdict) → releaseRefusal st row ≡ v
       → Done (st .shape) (ifRefused full (fullBy (release row) full) v) (ifRefused last (writtenBy (release row) last) v) v st (release row)
-      (outcomeBy st (rowTurned st row) v) s
+      (outcomeBy st (rowToggled st row) v) s
   release-by Accepted e =
       let w = released-facts st row e in
       accepted st (release row) (λ rows. refl) (release-keeps w) (omega (arith, row-emptied st row (w .below) (w .full) .count))

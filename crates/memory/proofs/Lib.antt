@@ -1,7 +1,7 @@
 -- The laws that the proofs of this crate, and of those above it, cite.
 pub mod States
 pub mod Accepted
-pub mod Turning
+pub mod Toggling
 pub mod Writing
 pub mod Groups
 pub mod Cycles

@@ -18,7 +18,7 @@ use Rattle.memory.specs.declared.Outcome.{Outcome}
 use Rattle.memory.specs.declared.Answer.{Answer}
 use Rattle.memory.specs.declared.Answer.the-variants.{FullRows, Served, Refused as NotDone}
 use Rattle.layout.specs.Shape.{shapeRefusal, banks, storeSize, generationSize, offset}
-use Rattle.memory.specs.State.{isFull, fullRows, sound, empty, zeroState, rowTurned}
+use Rattle.memory.specs.State.{isFull, fullRows, sound, empty, zeroState, rowToggled}
 
 -- What set-up gives: a memory of that shape with every row empty, or a refusal and a state of zeros.
 abbrev pub setUpOf : Shape → SetUp
@@ -69,7 +69,7 @@ abbrev pub rowWritten : Shape → ℕ → List ℕ → List ℕ → List ℕ
 rowWritten sh row generation s = groupsWritten sh row generation (sh .m) s
 
 abbrev pub writeOutcome : State → (size row len : ℕ) → Outcome
-writeOutcome st size row len = outcomeBy st (rowTurned st row) (writeRefusal st size row len)
+writeOutcome st size row len = outcomeBy st (rowToggled st row) (writeRefusal st size row len)
 
 abbrev pub writeStore : State → List ℕ → ℕ → List ℕ → List ℕ
 writeStore st s row generation = ifRefused s (rowWritten (st .shape) row generation s) (writeRefusal st (length s) row (length generation))
@@ -81,7 +81,7 @@ unfoldable pub releaseRefusal : State → ℕ → Verdict
 releaseRefusal st row = check 5 0 (sound st) then check 7 0 (ltb row (st .shape .g)) then check 9 0 (isFull st row)
 
 abbrev pub releaseOutcome : State → ℕ → Outcome
-releaseOutcome st row = outcomeBy st (rowTurned st row) (releaseRefusal st row)
+releaseOutcome st row = outcomeBy st (rowToggled st row) (releaseRefusal st row)
 
 -- ---- read cycle
 

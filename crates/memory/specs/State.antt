@@ -2,7 +2,7 @@
 use mathlib.Core.Path.{_≡_}
 use mathlib.Core.Bool.{Bool, false, _&&_}
 use Prim.Native.Nat.{ℕ, _≤_}
-use Rattle.bits.specs.Marks.{marked, turned, noneFrom, howMany}
+use Rattle.bits.specs.Marks.{marked, toggled, noneFrom, howMany}
 use Rattle.refusals.specs.Verdict.{passed}
 use Rattle.layout.specs.declared.Shape.{Shape}
 use Rattle.memory.specs.declared.State.{State}
@@ -32,6 +32,6 @@ empty sh = record { shape = sh; full = 0 }
 abbrev pub zeroState : State
 zeroState = empty (record { k = 0; m = 0; p = 0; g = 0 })
 
--- The state with row r turned: an empty row becomes full, a full one empty.
-abbrev pub rowTurned : State → ℕ → State
-rowTurned st r = record { shape = st .shape; full = turned (st .full) r }
+-- The state with row r's mark toggled: an empty row becomes full, a full one empty.
+abbrev pub rowToggled : State → ℕ → State
+rowToggled st r = record { shape = st .shape; full = toggled (st .full) r }

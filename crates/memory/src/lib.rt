@@ -6,7 +6,7 @@ ghost use lib.ListN.{length};
 ghost use Rattle.refusals.specs.declared.Verdict.the-variants.{Accepted};
 ghost use Rattle.simplex.specs.Filling.{packetsOf};
 ghost use Rattle.layout.specs.Shape.{InRange, storeSize, generationSize};
-ghost use Rattle.memory.specs.State.{sound, rowTurned};
+ghost use Rattle.memory.specs.State.{sound, rowToggled};
 ghost use Rattle.memory.specs.Operations.{setUpOf, outcomeBy, storeRefusal, writeRefusal, groupWritten, rowWritten, writeOutcome, writeStore, releaseRefusal, releaseOutcome, cycleOutcome, cycleOutput, cycleSchedule};
 ghost use Rattle.cycle.specs.Served.{PlansAudited};
 ghost use Rattle.memory.specs.declared.Answer.the-variants.{Served};
@@ -112,7 +112,7 @@ fn write_group(store: &mut [u8], shape: Shape, x: usize, row: usize, packets: &[
     requires { ⌜ (length (now store) ≡ storeSize shape) × (length (now packets) ≡ shape .k * shape .p) ⌝ }
     ensures { λ _. ⌜ now (store .exit) ≡ groupWritten shape x row (packetsOf (shape .p) (shape .k) (now (packets .entry))) (now (store .entry)) ⌝ }
 {
-    let at = layout::place_of(shape, x, 1, row);
+    let at = layout::offset_of(shape, x, 1, row);
     simplex::fill_group(store, at, shape.g * shape.p, packets, shape.p, shape.k)
 }
 
@@ -161,13 +161,13 @@ impl State {
         }
     }
 
-    // A row's mark turned: what an accepted write or release gives.
-    fn turn_row(self, row: usize) -> Outcome
+    // A row's mark toggled: what an accepted write or release gives.
+    fn toggle_row(self, row: usize) -> Outcome
         requires { ⌜ (sound self ≡ true) × (row < self .shape .g) ⌝ }
-        ensures { λ r. ⌜ r ≡ outcomeBy self (rowTurned self row) Accepted ⌝ }
+        ensures { λ r. ⌜ r ≡ outcomeBy self (rowToggled self row) Accepted ⌝ }
     {
         let shape = self.shape;
-        let full = bits::turn(self.full, row);
+        let full = bits::toggle(self.full, row);
         let rows = bits::count(full);
         Outcome {
             state: State { shape, full },
@@ -188,7 +188,7 @@ impl State {
             };
         }
         write_row(store, self.shape, row, generation);
-        self.turn_row(row)
+        self.toggle_row(row)
     }
 
     // Makes a full row empty; or refuses: 5, 7, 9. No byte of a store changes: it is given none.
@@ -202,7 +202,7 @@ impl State {
                 answer: Answer::Refused(number, place),
             };
         }
-        self.turn_row(row)
+        self.toggle_row(row)
     }
 
     // Serves a list of reads (01: asks; three bytes each: row, group, symbol) in one cycle: the packets to the output, P bytes each, and the banks

@@ -16,7 +16,7 @@ use Rattle.simplex.specs.Shape.{mostSymbols, limitOf}
 use Rattle.simplex.specs.Limit.{total}
 use Rattle.audit.specs.declared.Audited.the-variants.{Yes}
 use Rattle.audit.specs.Plan.{Pair, isPlan}
-use Rattle.audit.specs.Audit.{countsRefusal, bytesOf, auditOf}
+use Rattle.audit.specs.Audit.{countsRefusal, pairBytes, auditOf}
 use Rattle.audit.proofs.Served.{few}
 use Rattle.audit.proofs.Answer.{request, accepted, says-yes, pairs-bytes, even-bytes}
 use Rattle.plan.specs.declared.Planned.{Planned}
@@ -64,9 +64,9 @@ module _ (K : ℕ) (counts : List ℕ) where
     λ w. rw (accepted K counts (w .request), le-leb (total counts) (limitOf K) (w .total-most)),
   )
 
-  pub audited : WithinLimit K counts → auditOf K counts (bytesOf (planOf K counts)) ≡ Yes
+  pub audited : WithinLimit K counts → auditOf K counts (pairBytes (planOf K counts)) ≡ Yes
   audited w =
-      says-yes K counts (bytesOf (planOf K counts)) (accepted K counts (w .request)) (even-bytes (planOf K counts))
+      says-yes K counts (pairBytes (planOf K counts)) (accepted K counts (w .request)) (even-bytes (planOf K counts))
       (ap (isPlan K counts) (pairs-bytes (planOf K counts)) ∙ passes K counts w)
 
   -- the plan of an accepted request, read back from its arrays
@@ -77,7 +77,7 @@ module _ (K : ℕ) (counts : List ℕ) where
       let fits = few K counts pairs (w .request .symbols .most) (passes K counts w) in
       record {
         reads = is-plan K counts w .one-each;
-        audited = ap (λ (ps : List Pair). auditOf K counts (bytesOf ps)) (read-back pairs fits) ∙ audited w;
+        audited = ap (λ (ps : List Pair). auditOf K counts (pairBytes ps)) (read-back pairs fits) ∙ audited w;
       }
 
   -- so an answer that is the definition's has such a plan

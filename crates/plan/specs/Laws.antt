@@ -10,7 +10,7 @@ use Rattle.simplex.specs.Limit.{total, readsOf, Servable}
 use Rattle.refusals.specs.declared.Verdict.the-variants.{Accepted}
 use Rattle.audit.specs.Plan.{isPlan}
 use Rattle.audit.specs.declared.Audited.the-variants.{Yes}
-use Rattle.audit.specs.Audit.{RequestOf, bytesOf, auditOf}
+use Rattle.audit.specs.Audit.{RequestOf, pairBytes, auditOf}
 use Rattle.plan.specs.Renaming.{RenamedPlan}
 use Rattle.plan.specs.Finding.{planOf}
 use Rattle.plan.specs.Planned.{planRefusal}
@@ -27,6 +27,6 @@ pub record WithinLimit (K : ℕ) (counts : List ℕ) : Type 0 where
 pub record ThePlanner : Type 0 where
   pub exactly : (K : ℕ) (counts : List ℕ) → length counts ≡ mostSymbols → (planRefusal K counts ≡ Accepted) ↔ WithinLimit K counts
   pub valid : (K : ℕ) (counts : List ℕ) → WithinLimit K counts → isPlan K counts (planOf K counts) ≡ true
-  pub audited : (K : ℕ) (counts : List ℕ) → WithinLimit K counts → auditOf K counts (bytesOf (planOf K counts)) ≡ Yes
+  pub audited : (K : ℕ) (counts : List ℕ) → WithinLimit K counts → auditOf K counts (pairBytes (planOf K counts)) ≡ Yes
   pub met : (K P : ℕ) (counts : List ℕ) → WithinLimit K counts → Servable K P (readsOf counts)
   pub renaming : RenamedPlan

@@ -11,7 +11,7 @@ use Rattle.simplex.specs.Shape.{mostPairs, limitOf}
 use Rattle.simplex.specs.Limit.{total}
 use Rattle.audit.specs.declared.Audited.the-variants.{Yes}
 use Rattle.audit.specs.Plan.{Pair, pairAt}
-use Rattle.audit.specs.Audit.{countsRefusal, bytesOf, auditOf}
+use Rattle.audit.specs.Audit.{countsRefusal, pairBytes, auditOf}
 use Rattle.table.specs.Grouped.{listOf}
 use Rattle.plan.specs.declared.Plan.{Plan}
 use Rattle.plan.specs.declared.Planned.{Planned}
@@ -46,4 +46,4 @@ pairsIn plan = listOf (λ n. record { a = getD (plan .first) n 0; b = getD (plan
 -- A plan for the counts, in its arrays: there is a pair for each read, and the audit says yes to the pairs.
 pub record PlanFor (K : ℕ) (counts : List ℕ) (plan : Plan) : Type 0 where
   pub reads : plan .len ≡ total counts
-  pub audited : auditOf K counts (bytesOf (pairsIn plan)) ≡ Yes
+  pub audited : auditOf K counts (pairBytes (pairsIn plan)) ≡ Yes

@@ -9,7 +9,7 @@ use borrow.Author.Tests.{le-leb, leb-true}
 use lib.Dec.{leb}
 use Rattle.refusals.specs.declared.Verdict.{Verdict}
 use Rattle.refusals.specs.declared.Verdict.the-variants.{Accepted, Refused}
-use Rattle.refusals.specs.Verdict.{between, check, _then_, passed, first}
+use Rattle.refusals.specs.Verdict.{between, check, _then_, passed, firstRefusal}
 
 pub not-accepted : {A : Type 0} (number place : ℕ) → Refused number place ≡ Accepted → A
 not-accepted number place e = absurd (let z : _≡_ {A = ℕ} 0 1 = cc in omega arith)
@@ -52,7 +52,7 @@ check-refused number place false n p e = (cc, cc, refl)
 
 module _ (f : ℕ → Verdict) where
   -- the first that is refused settles it
-  pub stops : (n i number place : ℕ) → i < n → first f i ≡ Accepted → f i ≡ Refused number place → first f n ≡ Refused number place
+  pub stops : (n i number place : ℕ) → i < n → firstRefusal f i ≡ Accepted → f i ≡ Refused number place → firstRefusal f n ≡ Refused number place
   stops zero i number place l e r = absurd (omega arith)
   stops (suc n) i number place l e r =
       ⊎-elim
@@ -60,27 +60,27 @@ module _ (f : ℕ → Verdict) where
       (λ (less : i < n). rw (stops n i number place less e r))
       (eq-or-lt-of-le (le-of-suc-le-suc l))
 
-  pub all-accepted : (n : ℕ) → first f n ≡ Accepted → (i : ℕ) → i < n → f i ≡ Accepted
+  pub all-accepted : (n : ℕ) → firstRefusal f n ≡ Accepted → (i : ℕ) → i < n → f i ≡ Accepted
   all-accepted zero e i l = absurd (omega arith)
   all-accepted (suc n) e i l =
       ⊎-elim
-      (λ (same : i ≡ n). ap f same ∙ next-accepted (first f n) (f n) e)
-      (λ (less : i < n). all-accepted n (first-accepted (first f n) (f n) e) i less)
+      (λ (same : i ≡ n). ap f same ∙ next-accepted (firstRefusal f n) (f n) e)
+      (λ (less : i < n). all-accepted n (first-accepted (firstRefusal f n) (f n) e) i less)
       (eq-or-lt-of-le (le-of-suc-le-suc l))
 
-  pub accepted-all : (n : ℕ) → ((i : ℕ) → i < n → f i ≡ Accepted) → first f n ≡ Accepted
+  pub accepted-all : (n : ℕ) → ((i : ℕ) → i < n → f i ≡ Accepted) → firstRefusal f n ≡ Accepted
   accepted-all zero h = refl
-  accepted-all (suc n) h = accepted-then (first f n) (f n) (accepted-all n (λ i l. h i (omega arith))) (h n (omega arith))
+  accepted-all (suc n) h = accepted-then (firstRefusal f n) (f n) (accepted-all n (λ i l. h i (omega arith))) (h n (omega arith))
 
   -- a refusal is that of one of them, and those before it are accepted
-  pub first-refused : (n number place : ℕ) → first f n ≡ Refused number place
+  pub first-refused : (n number place : ℕ) → firstRefusal f n ≡ Refused number place
       → (i : ℕ) × (i < n) × (f i ≡ Refused number place) × ((j : ℕ) → j < i → f j ≡ Accepted)
   first-refused zero number place e = not-accepted number place (sym e)
   first-refused (suc n) number place e =
       ⊎-elim
       (λ r. let t = first-refused n number place r in (t .0, omega (arith, t .1), t .2, t .3))
       (λ r. (n, omega arith, r .1, all-accepted n (r .0)))
-      (then-refused (first f n) (f n) number place e)
+      (then-refused (firstRefusal f n) (f n) number place e)
 
 -- ---- a number that is not among those of its checks
 
@@ -93,7 +93,7 @@ never-check number n place test ne p e = ne (check-refused n place test number p
 pub never-then : (number : ℕ) (v next : Verdict) → Never number v → Never number next → Never number (v then next)
 never-then number v next a b place e = ⊎-elim (a place) (λ r. b place (r .1)) (then-refused v next number place e)
 
-pub never-first : (number : ℕ) (f : ℕ → Verdict) (n : ℕ) → ((i : ℕ) → Never number (f i)) → Never number (first f n)
+pub never-first : (number : ℕ) (f : ℕ → Verdict) (n : ℕ) → ((i : ℕ) → Never number (f i)) → Never number (firstRefusal f n)
 never-first number f n h place e = let t = first-refused f n number place e in h (t .0) place (t .2)
 
 -- so the refusal is that of what comes after it
@@ -101,7 +101,7 @@ pub skips : (number : ℕ) (v next : Verdict) (place : ℕ) → Never number v �
     → (v ≡ Accepted) × (next ≡ Refused number place)
 skips number v next place never e = ⊎-elim (λ r. absurd (never place r)) (λ r. r) (then-refused v next number place e)
 
-pub first-same : (f g : ℕ → Verdict) (n : ℕ) → ((i : ℕ) → i < n → f i ≡ g i) → first f n ≡ first g n
+pub first-same : (f g : ℕ → Verdict) (n : ℕ) → ((i : ℕ) → i < n → f i ≡ g i) → firstRefusal f n ≡ firstRefusal g n
 first-same f g zero h = refl
 first-same f g (suc n) h = rw (first-same f g n (λ i l. h i (omega arith)), h n (omega arith))
 

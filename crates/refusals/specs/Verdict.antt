@@ -31,6 +31,6 @@ Accepted then next = next
 Refused number place then next = Refused number place
 
 -- The first refusal of f 0, f 1, .., f (n - 1).
-abbrev pub first : (ℕ → Verdict) → ℕ → Verdict
-first f zero = Accepted
-first f (suc n) = first f n then f n
+abbrev pub firstRefusal : (ℕ → Verdict) → ℕ → Verdict
+firstRefusal f zero = Accepted
+firstRefusal f (suc n) = firstRefusal f n then f n

@@ -70,7 +70,7 @@ linear P (p ∷ packets) a b h =
     ∙ sym (cell-cons P p packets (bitXor a b))
 
 -- a bank 0 would hold zeros: it stands for no bank
-pub cell-zero : (P : ℕ) (packets : List Packet) → bankCell P packets 0 ≡ zeros P
+cell-zero : (P : ℕ) (packets : List Packet) → bankCell P packets 0 ≡ zeros P
 cell-zero P [] = refl
 cell-zero P (p ∷ packets) = cell-cons P p packets 0 ∙ cell-zero P packets
 

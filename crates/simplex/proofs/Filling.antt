@@ -114,7 +114,7 @@ spaced-twice at step t =
     let e : suc t + t - 1 ≡ t + t = omega arith in
     ap (λ (x : ℕ). at + x * step) e ∙ omega (arith, add-mul t t step)
 
-pub spaced-room : (P at step n size : ℕ) → P ≤ step → spaced at step n + P ≤ size → Room P (spaced at step) n size
+spaced-room : (P at step n size : ℕ) → P ≤ step → spaced at step n + P ≤ size → Room P (spaced at step) n size
 spaced-room P at step n size q fits = record { within = within; rising = rising }
   where
     within : (b : ℕ) → 1 ≤ b → b ≤ n → spaced at step b + P ≤ size

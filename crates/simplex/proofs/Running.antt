@@ -21,7 +21,7 @@ top : (b h : ℕ) → b < 2 ^ h → bitXor b (2 ^ h) ≡ 2 ^ h + b
 top b h l =
     xor-comm b (2 ^ h) ∙ ap (λ (n : ℕ). bitXor n b) (sym (one-mul (2 ^ h))) ∙ xor-shifted 1 h b l ∙ ap (λ (n : ℕ). n + b) (one-mul (2 ^ h))
 
-pub bank-top : (P : ℕ) (packets : List Packet) (b h : ℕ) → b < 2 ^ h → h < length packets → Sized P packets
+bank-top : (P : ℕ) (packets : List Packet) (b h : ℕ) → b < 2 ^ h → h < length packets → Sized P packets
     → xorBytes (bankCell P packets b) (getD packets h []) ≡ bankCell P packets (2 ^ h + b)
 bank-top P packets b h l q s =
     ap (xorBytes (bankCell P packets b)) (sym (cell-one P packets h q s)) ∙ linear P packets b (2 ^ h) s ∙ ap (bankCell P packets) (top b h l)

@@ -17,7 +17,7 @@ unfoldable pub filled : ℕ → List Packet → (ℕ → ℕ) → ℕ → List �
 filled P packets place zero s = s
 filled P packets place (suc n) s = put (filled P packets place n s) (place (suc n)) (bankCell P packets (suc n))
 
--- Bank 1 at the index at, and each other bank step bytes after the one before it.
+-- Bank 1 at the index `at`, and each other bank `step` bytes after the one before it.
 abbrev pub spaced : (at step : ℕ) → ℕ → ℕ
 spaced at step b = at + (b - 1) * step
 

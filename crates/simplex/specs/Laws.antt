@@ -23,7 +23,7 @@ oddBanks (suc n) = degreeOf (suc n) % 2 + oddBanks n
 -- holds: banks put into a store, wherever they have room, hold what the code says, and no other byte is changed.
 -- filling: so it is after `fill_group`.
 pub record TheCode : Type 0 where
-  pub linear : (K P : ℕ) (packets : List Packet) → Content K P packets → (a b : ℕ)
+  pub linear : (P : ℕ) (packets : List Packet) → Sized P packets → (a b : ℕ)
       → xorBytes (bankCell P packets a) (bankCell P packets b) ≡ bankCell P packets (bitXor a b)
   pub two : (K P : ℕ) (packets : List Packet) → Content K P packets → (i a b : ℕ) → i < K → bitXor a b ≡ 2 ^ i
       → xorBytes (bankCell P packets a) (bankCell P packets b) ≡ getD packets i []

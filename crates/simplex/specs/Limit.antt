@@ -1,6 +1,6 @@
 -- The limit of the code, and that it is met at K = 2.
 use mathlib.Core.Path.{_≡_}
-use mathlib.Core.Logic.{_⊎_}
+use mathlib.Core.Logic.{_≢_, _⊎_}
 use mathlib.Core.List.{List, [], _∷_, _++_}
 use Prim.Native.Nat.{ℕ, suc, _+_, _≤_, _<_}
 use lib.ListN.{length, getD, replicate}
@@ -35,7 +35,7 @@ pub record DisjointSets (K : ℕ) (reads : List ℕ) (sets : List Banks) : Type 
 pub record Fails (K P : ℕ) (banks : Banks) (i : ℕ) : Type 0 where
   pub packets : List Packet
   pub content : Content K P packets
-  pub wrong : xorOfBanks P packets banks ≡ getD packets i [] → ⊥
+  pub wrong : xorOfBanks P packets banks ≢ getD packets i []
 
 -- Of these reads, given these sets, some read's set fails its symbol.
 abbrev pub SomeFails : (K P : ℕ) → List ℕ → List Banks → Type 0

@@ -64,8 +64,8 @@ pub fn the_limit()
     ensures met { λ _. ⌜ LimitMet ⌝ }
 {}
 
-// With banks 1 to `t` of a group in place, bank 1 at `at` and each `step` after the one before: the next symbol's packet goes into bank
-// t + 1, at `to`, and each of the `t` banks XOR it into the bank t + 1 further on. Gives the place after the last.
+// Adds a symbol to a group that has banks 1 to `t`, bank 1 at `at`, each `step` after the one before: its packet becomes bank t + 1, at `to`,
+// and bank b XOR the packet becomes bank t + 1 + b, for b from 1 to t. Gives the index after the last bank.
 fn add_symbol(store: &mut [u8], at: usize, to: usize, step: usize, t: usize, packet: &[u8]) -> usize
     requires { ⌜ to ≡ spaced at step (suc t) ⌝ }
     requires { ⌜ (length (now packet) ≤ step) × (step ≤ length (now store)) × (to + t * step + length (now packet) ≤ length (now store)) ⌝ }

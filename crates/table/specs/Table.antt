@@ -30,28 +30,32 @@ walk counts at (suc n) = walk counts (getD trie (at + getD counts (suc (suc n)) 
 abbrev pub rowIndex : ℕ → List ℕ → ℕ
 rowIndex K counts = walk counts (getD trie (K - leastSymbols) 0) (K - 2) + getD counts 1 0
 
--- Its row: a number with a digit of mostSymbols - 1 bits for each read.
+-- Its row: a number with a digit for each read, in the order of a plan.
 unfoldable pub rowOf : ℕ → List ℕ → ℕ
 rowOf K counts = getD (getD blocks (rowIndex K counts / blockRows) []) (rowIndex K counts % blockRows) 0
 
--- Digit n is the second bank of read n, without the bit of the read's own symbol p, which is 0 there: the bits from p on stand one place lower.
+-- The bits of a digit.
 abbrev pub digitBits : ℕ
 digitBits = mostSymbols - 1
 
+-- Digit n of a row: the second bank of read n, without the bit of the read's own symbol, which is 0 there.
 abbrev pub digitOf : ℕ → ℕ → ℕ
 digitOf row n = row / 2 ^ (digitBits * n) % 2 ^ digitBits
 
-abbrev pub spread : ℕ → ℕ → ℕ
-spread p x = x + x / 2 ^ p * 2 ^ p
+-- A 0 put in as bit i of x: the bits from i on move up by one.
+abbrev pub spread : (i x : ℕ) → ℕ
+spread i x = x + x / 2 ^ i * 2 ^ i
 
-abbrev pub secondBank : ℕ → ℕ → ℕ → ℕ
-secondBank row p n = spread p (digitOf row n)
+-- The second bank of read n, a read of symbol i.
+abbrev pub secondBank : (row i n : ℕ) → ℕ
+secondBank row i n = spread i (digitOf row n)
 
 -- The pairs of a row.
 abbrev pub rowPairs : ℕ → List ℕ → List Pair
-rowPairs row counts = grouped (λ p j. pairWith p (secondBank row p (start counts p + j))) 0 counts
+rowPairs row counts = grouped (λ i j. pairWith i (secondBank row i (start counts i + j))) 0 counts
 
--- found: every sorted request has a row among the stored ones. valid: the pairs of its row are a plan for it.
+-- valid: the pairs of the row of every sorted request are a plan for it. found: its index lies within the stored blocks, of which the last has unused
+-- places.
 pub record TheTable : Type 0 where
-  pub found : (K : ℕ) (counts : List ℕ) → SortedRequest K counts → rowIndex K counts < length blocks * blockRows
   pub valid : (K : ℕ) (counts : List ℕ) → SortedRequest K counts → IsPlan K counts (rowPairs (rowOf K counts) counts)
+  pub found : (K : ℕ) (counts : List ℕ) → SortedRequest K counts → rowIndex K counts < length blocks * blockRows

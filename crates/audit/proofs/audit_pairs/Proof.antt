@@ -10,8 +10,9 @@ use denote.Ref.{now}
 use Rattle.bits.specs.Marks.{marked}
 use Rattle.simplex.specs.Limit.{total}
 use Rattle.audit.specs.Plan.{Pair, serves}
-use Rattle.audit.specs.Parts.{bankTurned}
-use Rattle.audit.proofs.Pairs.{banks-below, pairIn}
+use Rattle.audit.specs.Audit.{pairIn}
+use Rattle.audit.specs.Parts.{bankToggled}
+use Rattle.audit.proofs.Pairs.{banks-below}
 use Rattle.audit.proofs.Walk.{From, Turn, none-yet, all-passed, not-served, first-met, second-met, one-more}
 use Rattle.audit.proofs.audit_pairs.Statement.{statement}
 use Rattle.audit.proofs.audit_pairs.Tie as tie
@@ -116,11 +117,11 @@ returns-2 c =
     ⊎-elim (λ w. sym (first-met t (served e) (sym (c .before .is-marked .ensures) ∙ w .taken)))
     (λ w. sym (second-met t (served e) (sym (w .1 .ensures) ∙ w .2 .taken))) (c .if2 .came)
 
-turn-bank-requires : tie.Need-turn-bank-requires Inv-loop μ-loop
-turn-bank-requires c κs = omega (arith, below (c .before .before .before .before))
+toggle-bank-requires : tie.Need-toggle-bank-requires Inv-loop μ-loop
+toggle-bank-requires c κs = omega (arith, below (c .before .before .before .before))
 
-turn-bank-requires-2 : tie.Need-turn-bank-requires-2 Inv-loop μ-loop
-turn-bank-requires-2 c κs = below (c .before .before .before .before .before) .0
+toggle-bank-requires-2 : tie.Need-toggle-bank-requires-2 Inv-loop μ-loop
+toggle-bank-requires-2 c κs = below (c .before .before .before .before .before) .0
 
 loop-less : tie.Need-loop-less Inv-loop μ-loop
 loop-less c = omega arith
@@ -130,7 +131,7 @@ loop-again c =
     let d = c .before .before in
     let e = d .before .before .before .before in
     let t = e .before .before in
-    let marks = c .turn-bank2 .ensures ∙ ap (λ (x : ℕ). bankTurned x (P t .a)) (c .before .turn-bank .ensures) in (
+    let marks = c .toggle-bank2 .ensures ∙ ap (λ (x : ℕ). bankToggled x (P t .a)) (c .before .toggle-bank .ensures) in (
       omega arith,
       subst (λ (x : ℕ). From (St t .args .k) (St t .args .counts) (now (St t .args .bytes)) (At t) x) (sym marks)
           (one-more (turn t) (served e) (first-unmet d) (second-unmet d)),
@@ -147,4 +148,4 @@ pub audit-pairs-spec : {M : Type 1} → statement M
 audit-pairs-spec =
     tie.close
     (tie.spec Inv-loop μ-loop loop-holds sub-n mul-a shared-slice-read-a cast-a mul-b add-b shared-slice-read-b cast-b symbol-of-requires
-    serves-symbol-requires returns is-marked-requires is-marked-requires-2 returns-2 turn-bank-requires turn-bank-requires-2 loop-less loop-again returns-3)
+    serves-symbol-requires returns is-marked-requires is-marked-requires-2 returns-2 toggle-bank-requires toggle-bank-requires-2 loop-less loop-again returns-3)

@@ -1,13 +1,13 @@
 -- `bits::the_marks` carries the laws of marks.
-use Rattle.bits.proofs.Marks.{turned-itself, turned-other, turned-below, none-marked, marked-none, none-more}
+use Rattle.bits.proofs.Marks.{toggled-itself, toggled-other, toggled-below, none-marked, marked-none, none-more}
 use Rattle.bits.proofs.the_marks.Statement.{statement}
 use Rattle.bits.proofs.the_marks.Tie as tie
 
 returns : tie.Need-returns
 returns c = record {
-  itself = turned-itself;
-  others = turned-other;
-  below = turned-below;
+  itself = toggled-itself;
+  others = toggled-other;
+  below = toggled-below;
   none = λ set n. (none-marked set n, marked-none set n);
   count = λ set n w l e. none-more _ n w l (none-marked set n e);
 }

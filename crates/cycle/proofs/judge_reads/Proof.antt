@@ -8,7 +8,7 @@ use denote.Ref.{now}
 use Rattle.bits.specs.Marks.{marked}
 use Rattle.refusals.specs.declared.Verdict.{Verdict}
 use Rattle.refusals.specs.declared.Verdict.the-variants.{Accepted}
-use Rattle.refusals.specs.Verdict.{first}
+use Rattle.refusals.specs.Verdict.{firstRefusal}
 use Rattle.refusals.proofs.Verdicts.{accepted-then, stops}
 use Rattle.cycle.specs.Reads.{readCount}
 use Rattle.cycle.specs.Cycle.{readRefusal}
@@ -16,7 +16,7 @@ use Rattle.cycle.proofs.judge_reads.Statement.{statement}
 use Rattle.cycle.proofs.judge_reads.Tie as tie
 
 abbrev Inv-loop : tie.InvT-loop
-Inv-loop shape full reads many n₀ n = (n ≤ many) × (first (readRefusal shape (marked full) reads) n ≡ Accepted)
+Inv-loop shape full reads many n₀ n = (n ≤ many) × (firstRefusal (readRefusal shape (marked full) reads) n ≡ Accepted)
 
 abbrev μ-loop : tie.MeasureT-loop
 μ-loop shape full reads many n₀ n = many - n
@@ -62,7 +62,7 @@ returns-2 : tie.Need-returns-2 Inv-loop μ-loop
 returns-2 c =
     let s = c .before .before .before in
     let all : c .before .loop .n ≡ readCount (now (s .args .reads)) = omega arith in
-    sym (c .before .loop .inv .1) ∙ ap (first (Refusal s)) all
+    sym (c .before .loop .inv .1) ∙ ap (firstRefusal (Refusal s)) all
 
 pub judge-reads-spec : {M : Type 1} → statement M
 judge-reads-spec =

@@ -8,7 +8,7 @@ use borrow.Author.Needs.{needs}
 use denote.Ref.{now}
 use lib.ListN.{length}
 use Rattle.refusals.specs.declared.Verdict.the-variants.{Accepted}
-use Rattle.refusals.specs.Verdict.{first}
+use Rattle.refusals.specs.Verdict.{firstRefusal}
 use Rattle.refusals.proofs.Verdicts.{not-accepted, accepted-then, stops}
 use Rattle.cells.specs.Cell.{put}
 use Rattle.simplex.specs.Shape.{mostPairs}
@@ -26,7 +26,7 @@ use Rattle.cycle.proofs.plan_groups.Tie as tie
 
 abbrev Inv-loop : tie.InvT-loop
 Inv-loop shape reads counts groups ones₀ twos₀ x₀ ones twos x =
-    (x ≤ groups) × (first (groupRefusal shape reads) x ≡ Accepted)
+    (x ≤ groups) × (firstRefusal (groupRefusal shape reads) x ≡ Accepted)
     × (ones ≡ columns shape reads (λ p. p .a) x) × (twos ≡ columns shape reads (λ p. p .b) x)
 
 abbrev μ-loop : tie.MeasureT-loop
@@ -152,7 +152,7 @@ loop-again c =
     let l = Turn g .before .loop in
     let here = group-accepted (s .args .shape) (reads s) (s .pre .0) (s .pre .1) (l .x) _ (answer g) (t .enum-told .given .1) in (
       omega (arith, Turn g .loop-test .taken),
-      rw (add-one (l .x)) (accepted-then (first (groupRefusal (s .args .shape) (reads s)) (l .x)) _ (l .inv .1) here),
+      rw (add-one (l .x)) (accepted-then (firstRefusal (groupRefusal (s .args .shape) (reads s)) (l .x)) _ (l .inv .1) here),
       e .copy-into .ensures ∙ ap (λ (p : Plan). put (l .first) (l .x * mostPairs) (p .first)) (plan-is t)
           ∙ columns-more (s .args .shape) (reads s) (λ p. p .a) (l .x) (l .first) (l .inv .2),
       d .copy-into2 .ensures ∙ ap (λ (p : Plan). put (l .second) (l .x * mostPairs) (p .second)) (plan-is t)
@@ -167,8 +167,8 @@ module _ (c : tie.After-loop Inv-loop μ-loop) where
   all : c .before .loop .x ≡ End .args .shape .m
   all = omega arith
 
-  fine : first (groupRefusal (End .args .shape) (reads End)) (End .args .shape .m) ≡ Accepted
-  fine = ap (first (groupRefusal (End .args .shape) (reads End))) (sym all) ∙ c .before .loop .inv .1
+  fine : firstRefusal (groupRefusal (End .args .shape) (reads End)) (End .args .shape .m) ≡ Accepted
+  fine = ap (firstRefusal (groupRefusal (End .args .shape) (reads End))) (sym all) ∙ c .before .loop .inv .1
 
 starts-of-requires : tie.Need-starts-of-requires Inv-loop μ-loop
 starts-of-requires c κs =

@@ -11,7 +11,7 @@ use denote.Ref.{now}
 use Rattle.bits.specs.Marks.{marked}
 use Rattle.refusals.specs.declared.Verdict.{Verdict}
 use Rattle.refusals.specs.declared.Verdict.the-variants.{Accepted}
-use Rattle.refusals.specs.Verdict.{check, first}
+use Rattle.refusals.specs.Verdict.{check, firstRefusal}
 use Rattle.refusals.proofs.Verdicts.{both}
 use Rattle.cycle.specs.Reads.{readCount}
 use Rattle.cycle.specs.Cycle.{readRefusal, groupRefusal, listRefusal}
@@ -27,10 +27,10 @@ module _ (s : tie.Start) where
   Reads = now (s .args .reads)
 
   abbrev EachRead : Verdict
-  EachRead = first (readRefusal (s .args .shape) (marked (s .args .full)) Reads) (readCount Reads)
+  EachRead = firstRefusal (readRefusal (s .args .shape) (marked (s .args .full)) Reads) (readCount Reads)
 
   abbrev EachGroup : Verdict
-  EachGroup = first (groupRefusal (s .args .shape) Reads) (s .args .shape .m)
+  EachGroup = firstRefusal (groupRefusal (s .args .shape) Reads) (s .args .shape .m)
 
   abbrev Out : ℕ
   Out = length (now (s .args .out))

@@ -5,7 +5,7 @@ use borrow.Author.Needs.{needs}
 use borrow.Author.Tests.{not-true, not-false}
 use Rattle.refusals.specs.Verdict.{between}
 use Rattle.simplex.specs.Shape.{leastSymbols, mostSymbols}
-use Rattle.layout.specs.Shape.{mostGroups, mostBytes, mostRows, shapeRefusal}
+use Rattle.layout.specs.Shape.{mostGroups, mostPacketBytes, mostRows, shapeRefusal}
 use Rattle.layout.proofs.judge_shape.Statement.{statement}
 use Rattle.layout.proofs.judge_shape.Tie as tie
 
@@ -16,7 +16,7 @@ k-test c = c .is-between .ensures
 m-test : (c : tie.After-is-between2) → c .is-between2 .result ≡ between 1 mostGroups (c .before .before .before .args .shape .m)
 m-test c = c .is-between2 .ensures
 
-p-test : (c : tie.After-is-between3) → c .is-between3 .result ≡ between 1 mostBytes (c .before .before .before .before .before .args .shape .p)
+p-test : (c : tie.After-is-between3) → c .is-between3 .result ≡ between 1 mostPacketBytes (c .before .before .before .before .before .args .shape .p)
 p-test c = c .is-between3 .ensures
 
 g-test : (c : tie.After-is-between4)
@@ -30,7 +30,7 @@ k-in c = sym (k-test (c .before)) ∙ not-false _ (c .if1 .left)
 m-in : (c : tie.Else2) → between 1 mostGroups (c .before .before .before .before .args .shape .m) ≡ true
 m-in c = sym (m-test (c .before)) ∙ not-false _ (c .if2 .left)
 
-p-in : (c : tie.Else3) → between 1 mostBytes (c .before .before .before .before .before .before .args .shape .p) ≡ true
+p-in : (c : tie.Else3) → between 1 mostPacketBytes (c .before .before .before .before .before .before .args .shape .p) ≡ true
 p-in c = sym (p-test (c .before)) ∙ not-false _ (c .if3 .left)
 
 is-between-requires : tie.Need-is-between-requires

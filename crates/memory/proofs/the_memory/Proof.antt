@@ -13,7 +13,7 @@ use Rattle.memory.specs.History.{Operation, write, release, read, Memory
 use Rattle.memory.specs.Laws.{Written, OneMore}
 use Rattle.memory.proofs.States.{sound-words, words-sound}
 use Rattle.memory.proofs.Accepted.{written-facts, released-facts}
-use Rattle.memory.proofs.Turning.{row-filled, row-emptied}
+use Rattle.memory.proofs.Toggling.{row-filled, row-emptied}
 use Rattle.memory.proofs.Writing.{packet-in, row-written}
 use Rattle.memory.proofs.Histories.{after-any-history}
 use Rattle.memory.proofs.the_memory.Statement.{statement}

@@ -9,8 +9,8 @@ use Rattle.memory.proofs.Groups.{some-banks, fillable}
 use Rattle.memory.proofs.write_group.Statement.{statement}
 use Rattle.memory.proofs.write_group.Tie as tie
 
-place-of-requires : tie.Need-place-of-requires
-place-of-requires c κs =
+offset-of-requires : tie.Need-offset-of-requires
+offset-of-requires c κs =
     let p = c .before .before .pre in
     (p .0 .0, record { group = p .0 .1; first = omega arith; last = omega (arith, some-banks _ (p .0 .0)); row = omega (arith, p .0 .2) })
 
@@ -20,7 +20,7 @@ mul-fill-group c = omega (arith, row-bytes _ (c .before .before .before .before 
 fill-group-requires : tie.Need-fill-group-requires
 fill-group-requires c κs =
     let p = c .before .before .before .before .before .pre in
-    fillable _ _ _ _ (c .before .before .place-of .ensures) (p .0 .0) (p .0 .1) (omega (arith, p .0 .2)) _ _ (p .1 .1) (p .1 .0)
+    fillable _ _ _ _ (c .before .before .offset-of .ensures) (p .0 .0) (p .0 .1) (omega (arith, p .0 .2)) _ _ (p .1 .1) (p .1 .0)
 
 same-length : tie.Need-same-length
 same-length c = search needs
@@ -29,8 +29,8 @@ returns : tie.Need-returns
 returns c =
     let f = c .before .before in
     let a = f .before .before .before .before .before .before .args in
-    f .fill-group .ensures ∙ rw (f .before .before .before .place-of .ensures) (sym (group-spaced (a .shape) (a .x) (a .row) _ (now (a .store))))
+    f .fill-group .ensures ∙ rw (f .before .before .before .offset-of .ensures) (sym (group-spaced (a .shape) (a .x) (a .row) _ (now (a .store))))
 
 pub write-group-spec : {M : Type 1} → statement M
 write-group-spec =
-    tie.close (tie.spec place-of-requires mul-fill-group fill-group-requires same-length returns)
+    tie.close (tie.spec offset-of-requires mul-fill-group fill-group-requires same-length returns)

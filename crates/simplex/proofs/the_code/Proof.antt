@@ -8,7 +8,7 @@ use Rattle.simplex.proofs.the_code.Tie as tie
 
 returns : tie.Need-returns
 returns c = record {
-  linear = λ K P packets h a b. banks.linear P packets a b (h .sized);
+  linear = λ P packets h a b. banks.linear P packets a b h;
   two = banks.two;
   alone = banks.alone;
   yields = banks.yields;

@@ -22,11 +22,11 @@ returns c = rw (sym (c .before .before .before .judge-release .ensures) ∙ c .b
 enum-told : tie.Need-enum-told
 enum-told c = search needs
 
-turn-row-requires : tie.Need-turn-row-requires
-turn-row-requires c κs = let f = released-facts _ _ (accepted c) in (f .state, f .below)
+toggle-row-requires : tie.Need-toggle-row-requires
+toggle-row-requires c κs = let f = released-facts _ _ (accepted c) in (f .state, f .below)
 
 returns-2 : tie.Need-returns-2
-returns-2 c = rw (accepted (c .before)) (c .turn-row .ensures)
+returns-2 c = rw (accepted (c .before)) (c .toggle-row .ensures)
 
 pub release-spec : {M : Type 1} → statement M
 release-spec =
@@ -36,5 +36,5 @@ release-spec =
     enum-known-verdict
     returns
     enum-told
-    turn-row-requires
+    toggle-row-requires
     returns-2)

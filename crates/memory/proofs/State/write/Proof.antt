@@ -34,8 +34,8 @@ enum-told c = search needs
 write-row-requires : tie.Need-write-row-requires
 write-row-requires c κs = let f = facts (c .before) in ((sound-words _ (f .state) .ranges, f .below), (f .store, f .whole))
 
-turn-row-requires : tie.Need-turn-row-requires
-turn-row-requires c κs = let f = facts (c .before .before .before .before) in (f .state, f .below)
+toggle-row-requires : tie.Need-toggle-row-requires
+toggle-row-requires c κs = let f = facts (c .before .before .before .before) in (f .state, f .below)
 
 same-length : tie.Need-same-length
 same-length c = search needs
@@ -43,7 +43,7 @@ same-length c = search needs
 returns-2 : tie.Need-returns-2
 returns-2 c =
     let e = accepted (c .before .before .before .before .before) in
-    (rw e (c .turn-row .ensures), rw e (c .before .before .before .write-row .ensures))
+    (rw e (c .toggle-row .ensures), rw e (c .before .before .before .write-row .ensures))
 
 pub write-spec : {M : Type 1} → statement M
 write-spec =
@@ -54,6 +54,6 @@ write-spec =
     returns
     enum-told
     write-row-requires
-    turn-row-requires
+    toggle-row-requires
     same-length
     returns-2)

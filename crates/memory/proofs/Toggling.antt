@@ -1,21 +1,21 @@
--- A row's mark turned: the state stays sound, and one row more or one fewer is full.
+-- A row's mark toggled: the state stays sound, and one row more or one fewer is full.
 use mathlib.Core.Path.{_≡_, refl, sym, ap, _∙_}
 use mathlib.Core.Logic.{_≢_}
 use mathlib.Core.Bool.{true, false, not}
 use Prim.Native.Nat.{ℕ, _<_}
 use native.Mathlib.Omega.{arith}
 use Rattle.bits.specs.Marks.{marked, howMany}
-use Rattle.bits.proofs.Marks.{turned-itself, turned-other, none-more, one-more}
+use Rattle.bits.proofs.Marks.{toggled-itself, toggled-other, none-more, one-more}
 use Rattle.layout.specs.declared.Shape.{Shape}
 use Rattle.memory.specs.declared.State.{State}
 use Rattle.layout.specs.Shape.{mostRows}
-use Rattle.memory.specs.State.{isFull, fullRows, Sound, rowTurned}
+use Rattle.memory.specs.State.{isFull, fullRows, Sound, rowToggled}
 use Rattle.memory.specs.Laws.{OneMore}
 
-pub turned-sound : (st : State) (row : ℕ) → Sound st → row < st .shape .g → Sound (rowTurned st row)
-turned-sound st row s h = record {
+pub toggled-sound : (st : State) (row : ℕ) → Sound st → row < st .shape .g → Sound (rowToggled st row)
+toggled-sound st row s h = record {
   ranges = s .ranges;
-  rows = λ r l. turned-other (st .full) row r (λ e. omega arith) ∙ s .rows r l;
+  rows = λ r l. toggled-other (st .full) row r (λ e. omega arith) ∙ s .rows r l;
 }
 
 -- all 64 marks are those of the rows
@@ -34,12 +34,12 @@ one-row sh row fewer more h off on same = record {
   count = one-more (marked fewer) (marked more) row (sh .g) h off on same;
 }
 
-pub row-filled : (st : State) (row : ℕ) → row < st .shape .g → isFull st row ≡ false → OneMore row st (rowTurned st row)
+pub row-filled : (st : State) (row : ℕ) → row < st .shape .g → isFull st row ≡ false → OneMore row st (rowToggled st row)
 row-filled st row h e =
-    one-row (st .shape) row (st .full) (rowTurned st row .full) h e (turned-itself (st .full) row ∙ ap not e)
-    (λ r n. turned-other (st .full) row r (λ s. n (sym s)))
+    one-row (st .shape) row (st .full) (rowToggled st row .full) h e (toggled-itself (st .full) row ∙ ap not e)
+    (λ r n. toggled-other (st .full) row r (λ s. n (sym s)))
 
-pub row-emptied : (st : State) (row : ℕ) → row < st .shape .g → isFull st row ≡ true → OneMore row (rowTurned st row) st
+pub row-emptied : (st : State) (row : ℕ) → row < st .shape .g → isFull st row ≡ true → OneMore row (rowToggled st row) st
 row-emptied st row h e =
-    one-row (st .shape) row (rowTurned st row .full) (st .full) h (turned-itself (st .full) row ∙ ap not e) e
-    (λ r n. sym (turned-other (st .full) row r (λ s. n (sym s))))
+    one-row (st .shape) row (rowToggled st row .full) (st .full) h (toggled-itself (st .full) row ∙ ap not e) e
+    (λ r n. sym (toggled-other (st .full) row r (λ s. n (sym s))))

@@ -1,4 +1,4 @@
--- `layout::place_of` meets its contract: the products fit.
+-- `layout::offset_of` meets its contract: the products fit.
 use Prim.Native.Nat.{ℕ, _+_, _-_, _*_, _≤_}
 use native.Mathlib.Omega.{arith}
 use borrow.Author.Needs.{needs}
@@ -6,8 +6,8 @@ use Rattle.simplex.specs.Shape.{mostSymbols, banksOf}
 use Rattle.simplex.proofs.Tables.{banks-of}
 use Rattle.layout.specs.Shape.{mostGroups, mostRows, banks, offset}
 use Rattle.layout.proofs.Ranges.{few-banks, all-banks, scaled}
-use Rattle.layout.proofs.place_of.Statement.{statement}
-use Rattle.layout.proofs.place_of.Tie as tie
+use Rattle.layout.proofs.offset_of.Statement.{statement}
+use Rattle.layout.proofs.offset_of.Tie as tie
 
 -- the banks of the groups before this one and in it are few, and so are their rows
 few : (c : tie.After-group-of) → c .before .args .x * c .group-of .result .banks + c .before .args .b ≤ mostGroups * banksOf mostSymbols + banksOf mostSymbols
@@ -52,8 +52,8 @@ returns : tie.Need-returns
 unfolding offset
 returns c = rw (banks-of (c .before .before .before .before .args .shape .k) (c .before .before .before .group-of .ensures))
 
-pub place-of-spec : {M : Type 1} → statement M
-place-of-spec =
+pub offset-of-spec : {M : Type 1} → statement M
+offset-of-spec =
     tie.close
     (tie.spec
     group-of-requires
