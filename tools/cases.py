@@ -9,11 +9,22 @@ import sys
 from math import comb
 
 MOST_SYMBOLS = 5
+EVERY_K = range(2, MOST_SYMBOLS + 1)
 GROUPS, ROWS, BYTES, UNTOUCHED = 8, 4, 3, 238
+
+# The lines of a cycle. Of one K there are a head, three cycles, the answer to a release, on this line, and one cycle more.
+CYCLE_LINES = 4
+RELEASE = 1 + 3 * CYCLE_LINES
+K_LINES = RELEASE + 1 + CYCLE_LINES
+
+# The small memory's generations, and its refused cycles: the number, the place, the list, and the lengths of output and schedule.
+SMALL_ROWS = [[0x01, 0x02, 0x04, 0x08], [0x10, 0x20, 0x40, 0x80]]
+SMALL_CYCLES = [(5, 0, "0001000101010001", 9, 9), (6, 0, "0001000101010001", 9, 9), (13, 0, "0001000101010001", 9, 9), (15, 2, "000100010101000102", 9, 9),
+                (12, 1, "000100010101000101", 9, 9), (16, 0, "000100010101", 3, 4), (16, 0, "000100010101", 2, 5)]
 
 
 def refusal(K, counts):
-    if not 2 <= K <= MOST_SYMBOLS:
+    if K not in EVERY_K:
         return 1
     if any(counts[K:]):
         return 11
@@ -99,8 +110,8 @@ def is_cycle(K, full, reads, lines):
     shown = [re.fullmatch(name + " ((?:[0-9a-f]{2})*)", line) for name, line in zip(["reads", "packets", "schedule"], lines[1:])]
     if not all(shown):
         return False
-    listed, packets, schedule = [list(bytes.fromhex(match[1])) for match in shown]
-    if lines[0] != f"cycle of {len(reads)} reads: {answer}" or listed != [byte for read in reads for byte in read]:
+    asked, packets, schedule = [list(bytes.fromhex(match[1])) for match in shown]
+    if lines[0] != f"cycle of {len(reads)} reads: {answer}" or asked != [byte for read in reads for byte in read]:
         return False
     if refused:
         return packets == [UNTOUCHED] * (BYTES * len(reads)) and schedule == [UNTOUCHED] * (2 * len(reads))
@@ -112,24 +123,63 @@ def wrong_cycles(K, lines):
     limit = 2 ** (K - 1)
     largest = [mixed(K, n) for n in range(GROUPS * limit)]
     every, three = set(range(ROWS)), set(range(ROWS)) - {2}
-    wrong = [] if lines[0] == f"K {K}" and lines[13] == "full rows 3" else [f"K {K}: not as it should be"]
-    for at, full, reads in [(1, every, largest), (5, every, largest + [(1, 5, 0)]), (9, every, [(2, 3, 1)] * limit), (14, three, largest)]:
-        if not is_cycle(K, full, reads, lines[at:at + 4]):
-            wrong.append(f"K {K}, {lines[at]}")
+    cycles = [(every, largest), (every, largest + [(1, 5, 0)]), (every, [(2, 3, 1)] * limit), (three, largest)]
+    shown = lines[1:RELEASE] + lines[RELEASE + 1:]
+    wrong = [] if lines[0] == f"K {K}" and lines[RELEASE] == "full rows 3" else [f"K {K}: not as it should be"]
+    for n, (full, reads) in enumerate(cycles):
+        cycle = shown[CYCLE_LINES * n:CYCLE_LINES * (n + 1)]
+        if not is_cycle(K, full, reads, cycle):
+            wrong.append(f"K {K}, {cycle[0]}")
     return wrong
 
 
-requests = [[int(n) for n in line.split()] for line in open(sys.argv[1]) if line.strip()]
-lines = sys.stdin.read().splitlines()
-tallies = [tally(K) for K in range(2, MOST_SYMBOLS + 1)]
-cycles = lines[len(requests) + len(tallies):]
-wrong = [line for request, line in zip(requests, lines) if not is_right(request, line)]
-if lines[len(requests):len(requests) + len(tallies)] != tallies or len(cycles) != 18 * len(tallies):
-    wrong += ["the requests, the counts or the cycles after them are not all there"]
-else:
-    for K in range(2, MOST_SYMBOLS + 1):
-        wrong += wrong_cycles(K, cycles[18 * (K - 2):18 * (K - 1)])
-for line in wrong:
-    print("wrong:", line)
-print(f"{len(lines)} lines, {len(wrong)} wrong")
-sys.exit(bool(wrong))
+# The small memory: K = 2, two groups, packets of one byte, two rows. Bank b of group x keeps row r at byte (x * 3 + b - 1) * 2 + r.
+def small_store():
+    cells = [(x, b, r) for x in range(2) for b in range(1, 4) for r in range(2)]
+    return bytes((b & 1) * SMALL_ROWS[r][2 * x] ^ (b >> 1) * SMALL_ROWS[r][2 * x + 1] for x, b, r in cells).hex()
+
+
+# What it prints: each write that is refused leaves the store as it was, and each cycle that is refused its buffers.
+def small_lines(schedule):
+    store = "store " + small_store()
+    lines = ["small memory", "full rows 1", "full rows 2", store]
+    for answer in ["refused 5, place 0", "refused 6, place 0", "refused 7, place 0", "refused 8, place 0", "full rows 1", "refused 10, place 0"]:
+        lines += [answer] if answer.startswith("full") else [answer, store]
+    lines += ["refused 5, place 0", "refused 7, place 0", "refused 9, place 0"]
+    for number, place, reads, out, sheet in SMALL_CYCLES:
+        lines += [f"cycle of {len(reads) // 6} reads: refused {number}, place {place}", "reads " + reads, "packets " + "ee" * out, "schedule " + "ee" * sheet]
+    lines += ["cycle of 2 reads: served", "reads 000100010101", "packets 0480", "schedule " + schedule]
+    return lines + ["audit: refused 1, place 0", "audit: refused 11, place 0", "audit: no"]
+
+
+def is_small(lines):
+    pairs = bytes.fromhex(lines[-4].removeprefix("schedule "))
+    (a, b), (c, d) = pairs[:2], pairs[2:]
+    return lines == small_lines(pairs.hex()) and serves(2, 0, a, b) and serves(2, 1, c, d) and none_twice([n for n in pairs if n])
+
+
+# The lines that are wrong, of all that is printed: the requests, the counts of each K, the cycles of each K, and the small memory.
+def wrong_lines(requests, lines):
+    tallies = [tally(K) for K in EVERY_K]
+    end = len(requests) + len(tallies) + K_LINES * len(tallies)
+    cycles = lines[len(requests) + len(tallies):end]
+    wrong = [line for request, line in zip(requests, lines) if not is_right(request, line)]
+    if lines[len(requests):len(requests) + len(tallies)] != tallies or len(lines) <= end:
+        return wrong + ["the requests, the counts or what comes after them are not all there"]
+    for n, K in enumerate(EVERY_K):
+        wrong += wrong_cycles(K, cycles[K_LINES * n:K_LINES * (n + 1)])
+    return wrong + ([] if is_small(lines[end:]) else ["the small memory"])
+
+
+def main():
+    requests = [[int(n) for n in line.split()] for line in open(sys.argv[1]) if line.strip()]
+    lines = sys.stdin.read().splitlines()
+    wrong = wrong_lines(requests, lines)
+    for line in wrong:
+        print("wrong:", line)
+    print(f"{len(lines)} lines, {len(wrong)} wrong")
+    sys.exit(bool(wrong))
+
+
+if __name__ == "__main__":
+    main()

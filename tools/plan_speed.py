@@ -114,7 +114,7 @@ fn plain_pair(k: usize, c: [usize; 5], n: usize) -> usize {
     plan.first[n] as usize * 64 + plan.second[n] as usize
 }
 
-fn compared_pair(k: usize, c: [usize; 5], n: usize) -> usize {
+fn proved_pair_of(k: usize, c: [usize; 5], n: usize) -> usize {
     unsafe { proved_pair(k, c[0], c[1], c[2], c[3], c[4], n) }
 }
 
@@ -139,7 +139,7 @@ fn compare() -> usize {
                 rest /= limit + 1;
             }
             if counts.iter().sum::<usize>() <= limit {
-                assert!((0..=16).all(|n| compared_pair(k, counts, n) == plain_pair(k, counts, n)));
+                assert!((0..=16).all(|n| proved_pair_of(k, counts, n) == plain_pair(k, counts, n)));
                 compared += 1;
             }
         }

@@ -48,19 +48,19 @@ class Memory:
         first = (group * self.K + symbol) * self.P
         return self.rows[row][first:first + self.P]
 
-    def cycle(self, listed):
-        if len(listed) % 3:
+    def cycle(self, fields):
+        if len(fields) % 3:
             raise Refused(13)
-        asks = list(zip(listed[::3], listed[1::3], listed[2::3]))
-        for n, (row, group, symbol) in enumerate(asks):
+        reads = list(zip(fields[::3], fields[1::3], fields[2::3]))
+        for n, (row, group, symbol) in enumerate(reads):
             for number, wrong in [(7, row >= self.G), (14, group >= self.m), (15, symbol >= self.K), (9, row not in self.rows)]:
                 if wrong:
                     raise Refused(number, n)
-        # The counts go by group, over all rows, and are judged only once every ask is in order.
+        # The counts go by group, over all rows, and are judged only once every read is in order.
         for x in range(self.m):
-            if sum(group == x for _, group, _ in asks) > self.limit:
+            if sum(group == x for _, group, _ in reads) > self.limit:
                 raise Refused(12, x)
-        return b"".join(self.packet(*ask) for ask in asks)
+        return b"".join(self.packet(*read) for read in reads)
 
 
 # The bytes of a line. Only a line feed ends a line, so a carriage return is a character of it, and no digit; nor is a capital.

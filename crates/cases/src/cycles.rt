@@ -5,8 +5,8 @@ ghost use Prim.Native.Nat.{_+_, _*_, _≤_, _<_};
 ghost use lib.ListN.{length};
 ghost use Rattle.simplex.specs.Shape.{mostSymbols, mostPairs, banksOf};
 ghost use Rattle.layout.specs.Shape.{mostGroups, mostRows};
-use crate::number;
-use crate::text;
+use crate::print_number;
+use crate::print_text;
 use layout::MOST_GROUPS;
 use libc::STDOUT_FILENO;
 use memory::Answer;
@@ -41,87 +41,93 @@ fn generation(row: usize) -> [u8; GENERATION]
 }
 
 // Read n of a list becomes this row, group and symbol.
-fn set_read(list: &mut [u8], n: usize, row: u8, x: u8, i: u8)
-    requires { ⌜ 3 * n + 3 ≤ length (now list) ⌝ }
+fn set_read(reads: &mut [u8], n: usize, row: u8, x: u8, i: u8)
+    requires { ⌜ 3 * n + 3 ≤ length (now reads) ⌝ }
 {
-    list[3 * n] = row;
-    list[3 * n + 1] = x;
-    list[3 * n + 2] = i;
+    reads[3 * n] = row;
+    reads[3 * n + 1] = x;
+    reads[3 * n + 2] = i;
 }
 
 // A mixed list: the groups take turns, and each goes through rows and symbols at a pace of its own.
-fn set_mixed(list: &mut [u8], k: usize)
+fn set_mixed(reads: &mut [u8], k: usize)
     requires { ⌜ (1 ≤ k) × (k ≤ mostSymbols) ⌝ }
 {
-    for n in 0..list.len() / 3 {
+    for n in 0..reads.len() / 3 {
         let x = n % MOST_GROUPS;
         let j = n / MOST_GROUPS;
         let row = (x + j) % ROWS;
         let i = (x * 3 + j * (x + 1)) % k;
-        set_read(list, n, row as u8, x as u8, i as u8);
+        set_read(reads, n, row as u8, x as u8, i as u8);
     }
 }
 
 // A list of the same read again and again.
-fn set_equal(list: &mut [u8]) {
-    for n in 0..list.len() / 3 {
-        set_read(list, n, 2, 3, 1);
+fn set_equal(reads: &mut [u8]) {
+    for n in 0..reads.len() / 3 {
+        set_read(reads, n, 2, 3, 1);
     }
 }
 
-fn hexadecimal(bytes: &[u8]) {
+pub fn print_hexadecimal(bytes: &[u8]) {
     for i in 0..bytes.len() {
         io::print_hex(STDOUT_FILENO, bytes[i] as u64, 2);
     }
-    text(b"\n");
+    print_text(b"\n");
 }
 
-fn print_answer(outcome: Outcome) {
+pub fn print_answer(outcome: Outcome) {
     let answer = outcome.answer;
     match answer {
         Answer::FullRows(rows) => {
-            text(b"full rows ");
-            number(rows as u64);
+            print_text(b"full rows ");
+            print_number(rows as u64);
         }
         Answer::Served => {
-            text(b"served");
+            print_text(b"served");
         }
         Answer::Refused(refusal, place) => {
-            text(b"refused ");
-            number(refusal as u64);
-            text(b", place ");
-            number(place as u64);
+            print_text(b"refused ");
+            print_number(refusal as u64);
+            print_text(b", place ");
+            print_number(place as u64);
         }
     }
-    text(b"\n");
+    print_text(b"\n");
 }
 
 // Reads a list in one cycle, and shows the answer and every buffer.
-fn show_read(state: State, store: &[u8], list: &[u8], packets: &mut [u8], schedule: &mut [u8]) {
-    let outcome = state.read_cycle(store, list, packets, schedule);
-    text(b"cycle of ");
-    number((list.len() / 3) as u64);
-    text(b" reads: ");
+pub fn show_read(
+    state: State,
+    store: &[u8],
+    reads: &[u8],
+    packets: &mut [u8],
+    schedule: &mut [u8],
+) {
+    let outcome = state.read_cycle(store, reads, packets, schedule);
+    print_text(b"cycle of ");
+    print_number((reads.len() / 3) as u64);
+    print_text(b" reads: ");
     print_answer(outcome);
-    text(b"reads ");
-    hexadecimal(list);
-    text(b"packets ");
-    hexadecimal(packets);
-    text(b"schedule ");
-    hexadecimal(schedule);
+    print_text(b"reads ");
+    print_hexadecimal(reads);
+    print_text(b"packets ");
+    print_hexadecimal(packets);
+    print_text(b"schedule ");
+    print_hexadecimal(schedule);
 }
 
 // The same, with buffers of the right lengths.
-fn show_cycle(state: State, store: &[u8], list: &[u8])
-    requires { ⌜ length (now list) ≤ 3 * (mostGroups * mostPairs + 1) ⌝ }
+fn show_cycle(state: State, store: &[u8], reads: &[u8])
+    requires { ⌜ length (now reads) ≤ 3 * (mostGroups * mostPairs + 1) ⌝ }
 {
-    let many = list.len() / 3;
+    let many = reads.len() / 3;
     let mut packets = [UNTOUCHED; BYTES * READS];
     let mut schedule = [UNTOUCHED; 2 * READS];
     show_read(
         state,
         store,
-        list,
+        reads,
         &mut packets[..BYTES * many],
         &mut schedule[..2 * many],
     );
@@ -132,19 +138,19 @@ fn show_mixed(state: State, store: &[u8], k: usize, limit: usize, more: usize)
     requires { ⌜ (1 ≤ k) × (k ≤ mostSymbols) × (limit ≤ mostPairs) × (more ≤ 1) ⌝ }
 {
     let many = MOST_GROUPS * limit;
-    let mut list = [0u8; 3 * READS];
-    set_mixed(&mut list, k);
-    set_read(&mut list, many, 1, 5, 0);
-    show_cycle(state, store, &list[..3 * (many + more)]);
+    let mut reads = [0u8; 3 * READS];
+    set_mixed(&mut reads, k);
+    set_read(&mut reads, many, 1, 5, 0);
+    show_cycle(state, store, &reads[..3 * (many + more)]);
 }
 
 // As many equal reads as the limit.
 fn show_equal(state: State, store: &[u8], limit: usize)
     requires { ⌜ limit ≤ mostPairs ⌝ }
 {
-    let mut list = [0u8; 3 * READS];
-    set_equal(&mut list);
-    show_cycle(state, store, &list[..3 * limit]);
+    let mut reads = [0u8; 3 * READS];
+    set_equal(&mut reads);
+    show_cycle(state, store, &reads[..3 * limit]);
 }
 
 // Writes every row.
@@ -178,9 +184,9 @@ fn show_cycles(store: &mut [u8], k: usize, limit: usize)
 pub fn run(k: usize, limit: usize, banks: usize)
     requires { ⌜ (1 ≤ k) × (k ≤ mostSymbols) × (limit ≤ mostPairs) × (banks ≤ banksOf mostSymbols) ⌝ }
 {
-    text(b"K ");
-    number(k as u64);
-    text(b"\n");
+    print_text(b"K ");
+    print_number(k as u64);
+    print_text(b"\n");
     let mut space = [0u8; STORE];
     show_cycles(&mut space[..MOST_GROUPS * banks * ROWS * BYTES], k, limit);
 }

@@ -1,14 +1,15 @@
 // Plans requests, and audits the plans. First the requests of standard input, one a line: K and five counts, with a space between. (Other
 // characters than digits, spaces and the line feed that ends a line are passed over.) Then every request there is, of every K, that totals at most
-// one read more than the limit. Last, read cycles of a memory at each K, served and refused, as cycles.rt says.
+// one read more than the limit. Then read cycles of a memory at each K, served and refused, as cycles.rt says; last, a small memory, as refused.rt says.
 //
-// What the stored output should be was worked out by other means. With L = 2^(K-1), C(L+K, K) requests total at most L and ask K * C(L+K, K+1)
-// reads, and C(L+K, K-1) total L + 1. tools/cases.py computes these, and judges each plan and refusal of the first part by the words of the rules:
-// which plan a request gets is free. All plans but that of no reads have a first pair.
+// With L = 2^(K-1), C(L+K, K) requests total at most L and ask K * C(L+K, K+1) reads, and C(L+K, K-1) total L + 1. tools/cases.py computes these,
+// and judges each plan and refusal of the first part by the words of the rules: which plan a request gets is free. All plans but that of no reads
+// have a first pair.
 ghost use Prim.Native.Nat.{_≤_, _<_};
 ghost use Rattle.simplex.specs.Shape.{mostSymbols, mostPairs};
 
 mod cycles;
+mod refused;
 
 use audit::Audited;
 use libc::STDIN_FILENO;
@@ -35,11 +36,11 @@ struct Line {
     at: usize,
 }
 
-pub fn text(t: &[u8]) {
+pub fn print_text(t: &[u8]) {
     io::write_all(STDOUT_FILENO, t);
 }
 
-pub fn number(n: u64) {
+pub fn print_number(n: u64) {
     io::print_decimal(STDOUT_FILENO, n);
 }
 
@@ -98,11 +99,11 @@ fn is_denied(k: usize, counts: [usize; MOST_SYMBOLS], plan: Plan) -> bool {
 }
 
 fn print_pair(a: u8, b: u8) {
-    text(b" (");
-    number(a as u64);
-    text(b",");
-    number(b as u64);
-    text(b")");
+    print_text(b" (");
+    print_number(a as u64);
+    print_text(b",");
+    print_number(b as u64);
+    print_text(b")");
 }
 
 fn print_pairs(plan: Plan) {
@@ -117,18 +118,18 @@ fn print_pairs(plan: Plan) {
 }
 
 fn print_count(c: usize) {
-    text(b" ");
-    number(c as u64);
+    print_text(b" ");
+    print_number(c as u64);
 }
 
 fn print_request(k: usize, counts: [usize; MOST_SYMBOLS]) {
-    text(b"K ");
-    number(k as u64);
-    text(b", counts");
+    print_text(b"K ");
+    print_number(k as u64);
+    print_text(b", counts");
     for i in 0..MOST_SYMBOLS {
         print_count(counts[i]);
     }
-    text(b":");
+    print_text(b":");
 }
 
 // Plans one request, and shows the answer.
@@ -141,17 +142,17 @@ fn show(k: usize, counts: [usize; MOST_SYMBOLS]) {
         Verdict::Accepted => {
             print_pairs(plan);
             if is_passed(k, counts, plan) {
-                text(b"; the audit says yes\n");
+                print_text(b"; the audit says yes\n");
             } else {
-                text(b"; the audit says no\n");
+                print_text(b"; the audit says no\n");
             }
         }
         Verdict::Refused(refusal, place) => {
-            text(b" refused ");
-            number(refusal as u64);
-            text(b", place ");
-            number(place as u64);
-            text(b"\n");
+            print_text(b" refused ");
+            print_number(refusal as u64);
+            print_text(b", place ");
+            print_number(place as u64);
+            print_text(b"\n");
         }
     }
 }
@@ -227,21 +228,21 @@ fn run(k: usize, limit: usize, many: usize)
 }
 
 fn print_tally(k: usize, tally: Tally) {
-    text(b"K ");
-    number(k as u64);
-    text(b": requests within the limit ");
-    number(tally.within);
-    text(b", plans that the audit says yes to ");
-    number(tally.passed);
-    text(b", pairs in them ");
-    number(tally.pairs);
-    text(b", exchanged and said no to ");
-    number(tally.denied);
-    text(b"; requests of one read more ");
-    number(tally.above);
-    text(b", refused 12 ");
-    number(tally.refused);
-    text(b"\n");
+    print_text(b"K ");
+    print_number(k as u64);
+    print_text(b": requests within the limit ");
+    print_number(tally.within);
+    print_text(b", plans that the audit says yes to ");
+    print_number(tally.passed);
+    print_text(b", pairs in them ");
+    print_number(tally.pairs);
+    print_text(b", exchanged and said no to ");
+    print_number(tally.denied);
+    print_text(b"; requests of one read more ");
+    print_number(tally.above);
+    print_text(b", refused 12 ");
+    print_number(tally.refused);
+    print_text(b"\n");
 }
 
 // A number with one more decimal digit; one that may not fit becomes the largest.
@@ -311,4 +312,5 @@ fn main() {
     cycles::run(3, 4, 7);
     cycles::run(4, 8, 15);
     cycles::run(5, 16, 31);
+    refused::run();
 }

@@ -6,15 +6,10 @@ ghost use Rattle.frames.specs.Session.{mostText, textDone};
 use frames::MOST_OUTPUT;
 use frames::MOST_STORE;
 use frames::MOST_TEXT;
+use frames::Reply;
 use frames::Session;
 use libc::STDIN_FILENO;
 use libc::STDOUT_FILENO;
-
-// What a text leaves, beside the store: the session, and how long its output is.
-pub struct Answered {
-    pub session: Session,
-    pub len: usize,
-}
 
 // The part of a text that a session reads.
 fn cut(text: &[u8]) -> &[u8]
@@ -26,8 +21,8 @@ fn cut(text: &[u8]) -> &[u8]
     &text[..MOST_TEXT]
 }
 
-// Answers each line of a text, from a session and its store on.
-pub fn answer(text: &[u8], begun: Session, store: &mut [u8; MOST_STORE]) -> Answered
+// Answers each line of a text, from a session and its store on. Gives the session, and how long the whole output is.
+pub fn answer(text: &[u8], begun: Session, store: &mut [u8; MOST_STORE]) -> Reply
     ensures session { λ r. ⌜ r .session ≡ textDone begun (now (store .entry)) (now (text .entry)) .session ⌝ }
     ensures len { λ r. ⌜ r .len ≡ length (textDone begun (now (store .entry)) (now (text .entry)) .output) ⌝ }
     ensures store { λ _. ⌜ now (store .exit) ≡ textDone begun (now (store .entry)) (now (text .entry)) .store ⌝ }
@@ -46,7 +41,7 @@ pub fn answer(text: &[u8], begun: Session, store: &mut [u8; MOST_STORE]) -> Answ
         len += line;
         at = next.at;
     }
-    Answered { session, len }
+    Reply { session, len }
 }
 
 // Answers what standard input has.

@@ -2,7 +2,7 @@
 use mathlib.Core.Path.{_≡_, refl, ap, _∙_}
 use mathlib.Core.Logic.{⊎-elim}
 use mathlib.Core.List.{List, _∷_}
-use Prim.Native.Nat.{ℕ, zero, suc, _+_, _*_, _-_, _≤_}
+use Prim.Native.Nat.{ℕ, zero, suc, _+_, _*_, _-_, _≤_, min}
 use native.Mathlib.Omega.{arith}
 use lib.ListN.{length, take, drop, length-replicate}
 use lib.Seq.{take-at}
@@ -18,8 +18,8 @@ use Rattle.memory.specs.Operations.{cycleOutcome, cycleOutput}
 use Rattle.memory.specs.History.{outcomeOf}
 use Rattle.frames.specs.Frames.{said}
 use Rattle.frames.specs.Session.{mostStore, memoryOf, packetsBy, cycleOf}
-use Rattle.frames.specs.Parts.{lesser, lentSize}
-use Rattle.frames.proofs.Rooms.{same-said}
+use Rattle.frames.specs.Parts.{lentSize}
+use Rattle.frames.proofs.Rooms.{saidOf, same-said}
 use Rattle.frames.proofs.Done.{lends, five-read}
 
 -- ---- the buffers
@@ -41,13 +41,8 @@ part-back n size packets h e = take-at packets _ size (e ∙ ap length (part-zer
 
 -- ---- frame 04
 
--- what a cycle says whose buffers are zeros, of so many bytes for its packets
-abbrev saidOf : State → (s reads : List ℕ) → (room : ℕ) → List ℕ
-saidOf st s reads room =
-    said (cycleOutput st s reads (zeros room) (zeros (readCount reads * 2))) (cycleOutcome st (length s) reads room (readCount reads * 2) .answer)
-
-module _ (store reads : List ℕ) (st : State) (front size : ℕ) (fits : length store ≡ mostStore) (e : front ≡ lesser (lentSize (st .shape)) mostStore)
-    (room : size ≡ lesser (readCount reads * st .shape .p) mostStore) where
+module _ (store reads : List ℕ) (st : State) (front size : ℕ) (fits : length store ≡ mostStore) (e : front ≡ min (lentSize (st .shape)) mostStore)
+    (room : size ≡ min (readCount reads * st .shape .p) mostStore) where
   -- neither the room that there is for them nor the part of the store that is lent changes it: a broken state is refused whatever they are
   same-cycle : saidOf st (take front store) reads size ≡ saidOf st (memoryOf st store .store) reads (readCount reads * st .shape .p)
   same-cycle =

@@ -3,7 +3,7 @@ use mathlib.Core.Path.{_≡_, refl, sym}
 use mathlib.Core.Logic.{_⊎_, inl, inr, ⊎-elim}
 use mathlib.Core.Bool.{Bool, true, false, cond, _&&_}
 use mathlib.Core.List.{List, _∷_, _++_}
-use Prim.Native.Nat.{ℕ, _≤_}
+use Prim.Native.Nat.{ℕ, _≤_, min}
 use native.Mathlib.Omega.{arith}
 use borrow.Author.Tests.{leb-true}
 use lib.Dec.{leb, eqb}
@@ -22,29 +22,29 @@ use Rattle.frames.specs.declared.Reply.{Reply}
 use Rattle.frames.specs.declared.Session.{Session}
 use Rattle.frames.specs.declared.Session.the-variants.{Fresh, Running}
 use Rattle.frames.specs.declared.Frame.the-variants.{SetUp, Write, Release, Read, Unknown}
-use Rattle.frames.specs.Frames.{byte, frameOf, answerTo, said}
+use Rattle.frames.specs.Frames.{byte, frameOf, answerByte, said}
 use Rattle.frames.specs.Session.{mostStore, After, refusedWith, unlessRefused, memoryOf, behind, packetsBy, operationDone}
 use Rattle.frames.specs.Steps.{Prints, Gives}
-use Rattle.frames.specs.Parts.{lesser, lentSize}
-use Rattle.frames.proofs.Lesser.{take-lesser, drop-lesser}
+use Rattle.frames.specs.Parts.{lentSize}
+use Rattle.frames.proofs.Lesser.{take-min, drop-min}
 
 -- a set-up, or a line, by its verdict
-pub by-verdict : (v w : Verdict) (session : Session) (store : List ℕ) (first : ℕ) (after : After) {out : List ℕ} {r : Reply} {kept left : List ℕ}
+pub same-verdict : (v w : Verdict) (session : Session) (store : List ℕ) (first : ℕ) (after : After) {out : List ℕ} {r : Reply} {kept left : List ℕ}
     → v ≡ w → Gives (unlessRefused v session store first after) out r kept left → Gives (unlessRefused w session store first after) out r kept left
-by-verdict v w session store first after e g = rw e at g
+same-verdict v w session store first after e g = rw e at g
 
 -- ---- an operation, before any accepted 01 and with a memory
 
 module _ (session : Session) (store : List ℕ) (kind : ℕ) (operation : Shape → Operation) where
   pub fresh : {out : List ℕ} {r : Reply} {kept left : List ℕ} → session ≡ Fresh
-      → Gives (refusedWith session store (answerTo kind) 19 0) out r kept left → Gives (operationDone session store kind operation) out r kept left
+      → Gives (refusedWith session store (answerByte kind) 19 0) out r kept left → Gives (operationDone session store kind operation) out r kept left
   fresh e g = rw e (rw e at g)
 
   pub running : (st : State) (o : Outcome) (kept out : List ℕ) (len : ℕ) (left : List ℕ)
       → let memory = memoryOf st store in
       let op = operation (st .shape) in
       session ≡ Running st → o .state ≡ outcomeOf memory op .state → kept ≡ storeAfter memory op ++ behind st store
-      → Prints (answerTo kind ∷ said (packetsBy memory op) (outcomeOf memory op .answer)) out len left
+      → Prints (answerByte kind ∷ said (packetsBy memory op) (outcomeOf memory op .answer)) out len left
       → Gives (operationDone session store kind operation) out (record { session = Running (o .state); len = len }) kept left
   running st o kept out len left e did holds t = rw e (record { session = rw did; store = holds; line = t })
 
@@ -72,19 +72,19 @@ pub record Lent (st : State) (store : List ℕ) (size : ℕ) : Type 0 where
   pub front : take size store ≡ memoryOf st store .store
   pub rest : drop size store ≡ behind st store
 
-pub lends : (st : State) (store : List ℕ) (size : ℕ) → length store ≡ mostStore → size ≡ lesser (lentSize (st .shape)) mostStore
+pub lends : (st : State) (store : List ℕ) (size : ℕ) → length store ≡ mostStore → size ≡ min (lentSize (st .shape)) mostStore
     → (sound st ≡ false) ⊎ Lent st store size
 unfolding lentSize
 lends st store size fits e = go (shapeRefusal (st .shape)) refl
   where
     go : (v : Verdict) → shapeRefusal (st .shape) ≡ v → (sound st ≡ false) ⊎ Lent st store size
     go Accepted a =
-        let same : size ≡ lesser (storeSize (st .shape)) mostStore = rw a at e in
-        inr (record { front = rw same (take-lesser (storeSize (st .shape)) mostStore store fits); rest = rw same (drop-lesser (storeSize (st .shape)) mostStore store fits) })
+        let same : size ≡ min (storeSize (st .shape)) mostStore = rw a at e in
+        inr (record { front = rw same (take-min (storeSize (st .shape)) mostStore store fits); rest = rw same (drop-min (storeSize (st .shape)) mostStore store fits) })
     go (Refused number place) r = inl (broken st number place r)
 
 -- a write to it is the write to the memory, and the bytes behind it are kept
-pub writes : (st : State) (store : List ℕ) (size row : ℕ) (packets : List ℕ) → length store ≡ mostStore → size ≡ lesser (lentSize (st .shape)) mostStore
+pub writes : (st : State) (store : List ℕ) (size row : ℕ) (packets : List ℕ) → length store ≡ mostStore → size ≡ min (lentSize (st .shape)) mostStore
     → let memory = memoryOf st store in
     (writeOutcome st (length (take size store)) row (length packets) ≡ outcomeOf memory (write row packets))
     × (writeStore st (take size store) row packets ++ drop size store ≡ storeAfter memory (write row packets) ++ behind st store)

@@ -2,16 +2,16 @@
 use mathlib.Core.Path.{_≡_, refl}
 use mathlib.Core.Bool.{Bool, true, false}
 use mathlib.Core.List.{List}
-use Prim.Native.Nat.{ℕ, zero, suc, _-_, _*_, _≤_, _<_}
+use Prim.Native.Nat.{ℕ, zero, suc, _*_, _≤_, _<_}
 use native.Mathlib.Omega.{arith}
 use lib.ListN.{length}
-use lib.Pow.{pow-mono}
 use Rattle.bits.proofs.Marks.{many-most}
 use Rattle.refusals.specs.declared.Verdict.{Verdict}
 use Rattle.refusals.specs.declared.Verdict.the-variants.{Accepted, Refused}
 use Rattle.refusals.specs.Verdict.{check, _then_, firstRefusal}
 use Rattle.refusals.proofs.Verdicts.{checks}
-use Rattle.simplex.specs.Shape.{limitOf, mostSymbols, SymbolsInRange}
+use Rattle.simplex.specs.Shape.{limitOf, SymbolsInRange}
+use Rattle.simplex.proofs.Tables.{limit-most}
 use Rattle.layout.specs.declared.Shape.{Shape}
 use Rattle.layout.specs.Shape.{shapeRefusal, InRange, banks}
 use Rattle.layout.proofs.Ranges.{range-words, all-banks}
@@ -24,7 +24,7 @@ use Rattle.memory.specs.State.{isFull, fullRows, sound, rowToggled}
 use Rattle.memory.specs.Operations.{answerBy, storeRefusal, writeRefusal, writeOutcome, releaseRefusal, releaseOutcome, cycleRefusal, cycleOutcome}
 use Rattle.memory.proofs.States.{sound-words}
 use Rattle.memory.proofs.Accepted.{store-facts, written-facts, released-facts}
-use Rattle.frames.specs.Frames.{lineRefusal}
+use Rattle.frames.specs.Frames.{mostFrame, lineRefusal}
 use Rattle.frames.specs.Session.{setUpRefusal}
 use Rattle.frames.specs.Parts.{Fits}
 
@@ -89,7 +89,7 @@ fits-write st size row len = fits-by _ _ (near-write st size row len) (λ e. few
 pub fits-release : (st : State) (row : ℕ) → Fits (releaseOutcome st row .answer)
 fits-release st row = fits-by _ _ (near-release st row) (λ e. few-full st row (released-facts st row e .state))
 
-pub fits-cycle : (st : State) (size : ℕ) (reads : List ℕ) (out schedule : ℕ) → length reads < 2048 → Fits (cycleOutcome st size reads out schedule .answer)
+pub fits-cycle : (st : State) (size : ℕ) (reads : List ℕ) (out schedule : ℕ) → length reads < mostFrame → Fits (cycleOutcome st size reads out schedule .answer)
 unfolding cycleRefusal listRefusal
 fits-cycle st size reads out schedule h =
     let few : readCount reads ≤ 65536 = omega arith in
@@ -107,4 +107,4 @@ pub few-in-all : (sh : Shape) → InRange sh → sh .m * banks sh < 256
 few-in-all sh w = omega (arith, all-banks sh (sh .m) w (w .groups .1))
 
 pub small-limit : (K : ℕ) → SymbolsInRange K → limitOf K < 256
-small-limit K w = omega (arith, pow-mono {i = K - 1} {j = mostSymbols} (omega (arith, w .most)))
+small-limit K w = omega (arith, limit-most K (w .most))

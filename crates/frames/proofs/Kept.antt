@@ -28,8 +28,8 @@ use Rattle.frames.specs.declared.Session.the-variants.{Fresh, Running}
 use Rattle.frames.specs.declared.Frame.{Frame}
 use Rattle.frames.specs.declared.Frame.the-variants.{SetUp, Write, Release, Read, Unknown}
 use Rattle.lines.specs.Hex.{bytesOf}
-use Rattle.frames.specs.Frames.{lineRefusal, frameOf, answerTo, answerToNone, said}
-use Rattle.frames.specs.Session.{mostStore, After, unlessRefused, setUpRefusal, memoryOf, behind, operationDone, cycleOf, frameDone, lineDone, linesDone, afterLines, answerAfter}
+use Rattle.frames.specs.Frames.{lineRefusal, frameOf, answerByte, noFrameByte, said}
+use Rattle.frames.specs.Session.{mostStore, After, unlessRefused, setUpRefusal, memoryOf, behind, operationDone, cycleOf, frameDone, lineDone, linesDone, fromStart, answerAfter}
 use Rattle.frames.specs.Past.{Past, nothing, since, more, pastByFrame, pastBy, pastIn, Keeps, Brings}
 
 -- a memory just set up, over any store
@@ -122,7 +122,7 @@ module _ (session : Session) (store : List ℕ) (size : length store ≡ mostSto
       → Kept (pastByFrame past bytes frame) (frameDone session store bytes frame)
   unfolding frameDone
   by-frame past h bytes (SetUp sh) =
-      by-verdict past (since sh []) (setUpRefusal sh) (answerTo 1) _ h (set-up sh _ (omega (arith, length-replicate {A = ℕ} (length store) 0, size)))
+      by-verdict past (since sh []) (setUpRefusal sh) (answerByte 1) _ h (set-up sh _ (omega (arith, length-replicate {A = ℕ} (length store) 0, size)))
   by-frame past h bytes (Write row) = operation past h 2 (λ sh. write row (drop 2 bytes))
   by-frame past h bytes (Release row) = operation past h 3 (λ sh. release row)
   by-frame past h bytes Read = operation past h 4 (cycleOf (drop 1 bytes))
@@ -130,7 +130,7 @@ module _ (session : Session) (store : List ℕ) (size : length store ≡ mostSto
 
   by-line : (past : Past) → Has past session store → (line : List ℕ) → Kept (pastBy past line) (lineDone session store line)
   unfolding pastBy
-  by-line past h line = by-verdict past _ (lineRefusal line) answerToNone _ h (λ e. by-frame past h (bytesOf line) (frameOf (bytesOf line)))
+  by-line past h line = by-verdict past _ (lineRefusal line) noFrameByte _ h (λ e. by-frame past h (bytesOf line) (frameOf (bytesOf line)))
 
 -- ---- all lines
 
@@ -145,9 +145,9 @@ keeps : (past : Past) (session : Session) (store : List ℕ) → Has past sessio
 keeps nothing session store h = h
 keeps (since sh history) session store h = (h .state, h .is, before h)
 
-pub kept : (lines : List (List ℕ)) → Keeps (pastIn nothing lines) (afterLines lines .session) (afterLines lines .store)
+pub kept : (lines : List (List ℕ)) → Keeps (pastIn nothing lines) (fromStart lines .session) (fromStart lines .store)
 kept lines =
-    keeps (pastIn nothing lines) (afterLines lines .session) (afterLines lines .store)
+    keeps (pastIn nothing lines) (fromStart lines .session) (fromStart lines .store)
     (by-lines Fresh (zeros mostStore) (length-replicate {A = ℕ} mostStore 0) nothing refl lines)
 
 -- ---- what a 04 that is served brings
@@ -159,9 +159,9 @@ behind-two a b packets at p = let e : 2 + at ≡ suc (suc at) = omega arith in r
 said-packets : (sh : Shape) (history : History) (reads packets : List ℕ) (answer : Answer) → answer ≡ Served → length packets ≡ readCount reads * sh .p
     → ((n : ℕ) → n < readCount reads
     → cell packets (n * sh .p) (sh .p) ≡ packetIn sh (lastWritten sh history (row reads n)) (group reads n) (symbol reads n))
-    → Brings sh history reads (answerTo 4 ∷ said packets answer)
+    → Brings sh history reads (answerByte 4 ∷ said packets answer)
 said-packets sh history reads packets answer e size each =
-    rw e (record { served = refl; size = omega arith; packets = λ n l. behind-two (answerTo 4) 0 packets (n * sh .p) (sh .p) ∙ each n l })
+    rw e (record { served = refl; size = omega arith; packets = λ n l. behind-two (answerByte 4) 0 packets (n * sh .p) (sh .p) ∙ each n l })
 
 -- the output is as long as it was
 as-long : (st : State) (s reads out schedule : List ℕ) → length (cycleOutput st s reads out schedule) ≡ length out
@@ -195,4 +195,4 @@ pub returned : (lines : List (List ℕ)) (line : List ℕ) (sh : Shape) (history
     → let reads = drop 1 (bytesOf line) in
     verdictIn sh (fullIn sh history) (cycleOf reads sh) ≡ Accepted → Brings sh history reads (answerAfter lines line)
 returned lines line sh history e =
-    brings sh history (afterLines lines .session) (afterLines lines .store) line (rw e at (kept lines))
+    brings sh history (fromStart lines .session) (fromStart lines .store) line (rw e at (kept lines))

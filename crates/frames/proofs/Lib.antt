@@ -1,4 +1,4 @@
--- The laws of the crate.
+-- The proofs of the crate: sizes that fit, frames, sessions and what they keep.
 pub mod Fitting
 pub mod Lesser
 pub mod Rooms

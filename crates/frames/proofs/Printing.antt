@@ -27,15 +27,15 @@ four-set (x ∷ y ∷ z ∷ []) a n b c d h = absurd (omega arith)
 four-set (x ∷ y ∷ z ∷ w ∷ l) a n b c d h = refl
 
 -- what stands behind two bytes is as it was
-pub behind-two : (l : List ℕ) (a b n : ℕ) → 2 ≤ length l → take (2 + n) (set (set l 0 a) 1 b) ≡ a ∷ b ∷ cell l 2 n
-behind-two [] a b n h = absurd (omega arith)
-behind-two (x ∷ []) a b n h = absurd (omega arith)
-behind-two (x ∷ y ∷ l) a b n h = let e : 2 + n ≡ suc (suc n) = omega arith in rw e
+pub two-set : (l : List ℕ) (a b n : ℕ) → 2 ≤ length l → take (2 + n) (set (set l 0 a) 1 b) ≡ a ∷ b ∷ cell l 2 n
+two-set [] a b n h = absurd (omega arith)
+two-set (x ∷ []) a b n h = absurd (omega arith)
+two-set (x ∷ y ∷ l) a b n h = let e : 2 + n ≡ suc (suc n) = omega arith in rw e
 
 -- ---- a line
 
 -- one byte more behind those that are put
-pub put-end : (s t : List ℕ) (v : ℕ) → set (put s 0 t) (length t) v ≡ put s 0 (t ++ (v ∷ []))
+put-end : (s t : List ℕ) (v : ℕ) → set (put s 0 t) (length t) v ≡ put s 0 (t ++ (v ∷ []))
 unfolding put
 put-end [] t v = refl
 put-end (x ∷ s) [] v = ap (λ (r : List ℕ). v ∷ r) (put-none s 0)

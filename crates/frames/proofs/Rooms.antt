@@ -1,9 +1,10 @@
 -- The packets of a cycle that is served have no more bytes than the store, so the room that there is for them changes no answer.
-use mathlib.Core.Path.{_≡_, refl, _∙_}
-use mathlib.Core.Logic.{⊎-elim}
+use mathlib.Core.Path.{_≡_, refl}
+use mathlib.Core.Logic.{dite}
 use mathlib.Core.List.{List}
-use Prim.Native.Nat.{ℕ, _-_, _*_, _^_, _≤_, _<_}
+use Prim.Native.Nat.{ℕ, _-_, _*_, _^_, _≤_, _<_, min}
 use native.Mathlib.Nat.{mul-le-mul-left, mul-le-mul-right, le-trans, le-mul-of-pos-right}
+use native.Mathlib.Decide.{decLt}
 use native.Mathlib.Omega.{arith}
 use borrow.Author.Tests.{eq-eqb}
 use lib.ListN.{length}
@@ -24,8 +25,6 @@ use Rattle.memory.proofs.States.{sound-words}
 use Rattle.memory.proofs.Accepted.{read-facts}
 use Rattle.frames.specs.Frames.{said}
 use Rattle.frames.specs.Session.{mostStore}
-use Rattle.frames.specs.Parts.{lesser}
-use Rattle.frames.proofs.Lesser.{lesser-cases}
 
 -- ---- a cycle that is served
 
@@ -66,18 +65,20 @@ said-refused : (packets others : List ℕ) (v : Verdict) → (v ≡ Accepted →
 said-refused packets others Accepted refused = absurd (refused refl)
 said-refused packets others (Refused number place) refused = refl
 
+-- what a cycle says whose buffers are zeros, of so many bytes for its packets
+abbrev pub saidOf : State → (s reads : List ℕ) → (room : ℕ) → List ℕ
+saidOf st s reads room =
+    said (cycleOutput st s reads (zeros room) (zeros (readCount reads * 2))) (cycleOutcome st (length s) reads room (readCount reads * 2) .answer)
+
 -- the answer in bytes with the room there is, and with room for all packets
-pub same-said : (st : State) (s reads : List ℕ) (size : ℕ) → length s ≤ mostStore → size ≡ lesser (readCount reads * st .shape .p) mostStore
-    → said (cycleOutput st s reads (zeros size) (zeros (readCount reads * 2))) (cycleOutcome st (length s) reads size (readCount reads * 2) .answer)
-    ≡ said (cycleOutput st s reads (zeros (readCount reads * st .shape .p)) (zeros (readCount reads * 2)))
-    (cycleOutcome st (length s) reads (readCount reads * st .shape .p) (readCount reads * 2) .answer)
+pub same-said : (st : State) (s reads : List ℕ) (size : ℕ) → length s ≤ mostStore → size ≡ min (readCount reads * st .shape .p) mostStore
+    → saidOf st s reads size ≡ saidOf st s reads (readCount reads * st .shape .p)
 same-said st s reads size fits e =
     let all = readCount reads * st .shape .p in
     let lines = readCount reads * 2 in
     let fine : bufferRefusal (st .shape) reads all lines ≡ Accepted = rw (eq-eqb all all refl, eq-eqb lines lines refl) in
-    ⊎-elim
-    (λ c. rw (e ∙ c .1))
-    (λ c.
-    let refused : cycleRefusal st (length s) reads all lines ≡ Accepted → ⊥ = λ a. omega (arith, c .0, within st (length s) reads all lines a) in
+    dite (decLt mostStore all)
+    (λ l.
+    let refused : cycleRefusal st (length s) reads all lines ≡ Accepted → ⊥ = λ a. omega (arith, within st (length s) reads all lines a) in
     rw (refused-alike st (length s) reads size all lines fine refused) (said-refused _ _ _ refused))
-    (lesser-cases all mostStore)
+    (λ f. let same : size ≡ all = omega arith in rw same)

@@ -1,4 +1,4 @@
--- A session goes on line by line.
+-- A session line by line: one output line for each, the laws of a session, and the turns of a loop over a text.
 use mathlib.Core.Path.{_≡_, refl, sym, ap, _∙_}
 use mathlib.Core.Bool.{Bool, true, false, cond}
 use mathlib.Core.List.{List, [], _∷_, _++_}
@@ -8,13 +8,12 @@ use native.Mathlib.Omega.{arith}
 use borrow.Author.Tests.{ne-eqb}
 use lib.Dec.{eqb, ltb}
 use lib.ListN.{length, getD, take, drop, length-append}
-use Rattle.cells.specs.Cell.{cell}
 use Rattle.cells.specs.Xor.{zeros}
 use Rattle.cells.proofs.Cells.{length-put}
 use Rattle.frames.specs.declared.Session.{Session}
 use Rattle.frames.specs.declared.Session.the-variants.{Fresh}
 use Rattle.frames.specs.declared.Next.{Next}
-use Rattle.lines.specs.Lines.{lineFeed, linesOf, lineAt}
+use Rattle.lines.specs.Lines.{lineFeed, linesOf, firstLine, lineAt}
 use Rattle.lines.specs.Hex.{char0, smallA, digitOf, digitsOf}
 use Rattle.frames.specs.Frames.{printed}
 use Rattle.frames.specs.Session.{mostText, mostStore, AfterLines, lineDone, andThen, linesDone, textRead, textDone}
@@ -24,7 +23,7 @@ use Rattle.lines.proofs.Lines.{the-lines}
 use Rattle.frames.proofs.Kept.{kept, returned}
 
 next : (session : Session) (store text : List ℕ) (at : ℕ) → at < length text
-    → let first = lineDone session store (cell text at (lineAt text at .end - at)) in
+    → let first = lineDone session store (firstLine (drop at text)) in
     linesDone session store (linesOf (drop at text))
     ≡ andThen first (linesDone (first .session) (first .store) (linesOf (drop (lineAt text at .next) text)))
 unfolding linesDone
@@ -101,15 +100,15 @@ module _ {session : Session} {store text : List ℕ} {at : ℕ} {out : List ℕ}
   pub turn : Ahead (linesDone session store (linesOf (drop at text))) (linesDone (r .reply .session) kept (linesOf (drop (r .at) text))) (r .reply .len)
   turn =
       let g = a .line h in
-      let first = lineDone session store (cell text at (lineAt text at .end - at)) in
-      rw (a .next h, g .session, g .store, g .line .line, next session store text at h)
+      let first = lineDone session store (firstLine (drop at text)) in
+      rw (a .next h, g .session, g .store, g .line .len, next session store text at h)
       (record { session = refl; store = refl; output = sym (length-append (printed (first .answer)) _) })
 
   pub further : (at < r .at) × (r .at ≤ length text)
   further = rw (a .next h) (the-lines .on text at h)
 
   pub same-room : (length left ≡ length out) × (r .reply .len ≤ length out)
-  same-room = let p = a .line h .line in (rw (p .output) (length-put out 0 _), rw (p .line) (p .room))
+  same-room = let p = a .line h .line in (rw (p .output) (length-put out 0 _), rw (p .len) (p .room))
 
 -- at the end of what is read of a text
 pub at-last : (begun : Session) (first input text : List ℕ) (session : Session) (store : List ℕ) (at printed : ℕ) → text ≡ take mostText input → length text ≤ at

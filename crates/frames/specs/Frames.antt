@@ -13,9 +13,12 @@ use Rattle.frames.specs.declared.Frame.the-variants.{SetUp, Write, Relea
 use Rattle.lines.specs.Lines.{lineFeed, each}
 use Rattle.lines.specs.Hex.{isDigit, digitsOf}
 
--- The most characters of a line.
+-- The most characters of a line, and bytes of a frame.
 abbrev pub mostCharacters : ℕ
 mostCharacters = 4096
+
+abbrev pub mostFrame : ℕ
+mostFrame = mostCharacters / 2
 
 -- 17, the line is empty, has an odd count of digits, a character other than 0-9 and a-f, or more than 4,096 characters.
 unfoldable pub lineRefusal : List ℕ → Verdict
@@ -35,11 +38,11 @@ frameOf bytes =
     (cond (eqb (byte bytes 0) 4) Read Unknown)))
 
 -- The first byte of an answer to a frame that starts with this byte, and to what is no frame.
-abbrev pub answerTo : ℕ → ℕ
-answerTo first = first + 128
+abbrev pub answerByte : ℕ → ℕ
+answerByte first = first + 128
 
-abbrev pub answerToNone : ℕ
-answerToNone = 255
+abbrev pub noFrameByte : ℕ
+noFrameByte = 255
 
 -- A refusal in bytes: its number, and its place in two, high first.
 abbrev pub refusalSaid : (number place : ℕ) → List ℕ

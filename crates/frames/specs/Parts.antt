@@ -1,16 +1,10 @@
 -- What the parts of a step hand on to each other. No public promise cites it.
-use mathlib.Core.Bool.{cond}
 use Prim.Native.Nat.{ℕ, _<_}
-use lib.Dec.{leb}
 use Rattle.refusals.specs.Verdict.{ifRefused}
 use Rattle.layout.specs.declared.Shape.{Shape}
 use Rattle.layout.specs.Shape.{shapeRefusal, storeSize}
 use Rattle.memory.specs.declared.Answer.{Answer}
 use Rattle.memory.specs.declared.Answer.the-variants.{FullRows, Served, Refused}
-
--- The lesser of two numbers.
-abbrev pub lesser : ℕ → ℕ → ℕ
-lesser a b = cond (leb a b) a b
 
 -- How many bytes a memory of this shape is lent, if there are so many: none where the shape is out of range, which no session sets up.
 unfoldable pub lentSize : Shape → ℕ

@@ -15,7 +15,7 @@ use Rattle.frames.specs.declared.Session.the-variants.{Fresh, Running}
 use Rattle.frames.specs.declared.Frame.{Frame}
 use Rattle.frames.specs.declared.Frame.the-variants.{SetUp, Write, Release, Read, Unknown}
 use Rattle.lines.specs.Hex.{bytesOf}
-use Rattle.frames.specs.Frames.{lineRefusal, frameOf, answerTo}
+use Rattle.frames.specs.Frames.{lineRefusal, frameOf, answerByte}
 use Rattle.frames.specs.Session.{setUpRefusal, memoryOf, cycleOf}
 
 -- Nothing, before any accepted 01; else the shape of the last accepted 01, and the operations since.
@@ -50,7 +50,7 @@ Keeps (since sh history) session store = (st : State) × (session ≡ Running st
 
 -- What answers a 04 that is served after a history: 84 00, and for each read, in their order, the packet last written at its row, group and symbol.
 pub record Brings (sh : Shape) (history : History) (reads answer : List ℕ) : Type 0 where
-  pub served : take 2 answer ≡ answerTo 4 ∷ 0 ∷ []
+  pub served : take 2 answer ≡ answerByte 4 ∷ 0 ∷ []
   pub size : length answer ≡ 2 + readCount reads * sh .p
   pub packets : (n : ℕ) → n < readCount reads
       → cell answer (2 + n * sh .p) (sh .p) ≡ packetIn sh (lastWritten sh history (row reads n)) (group reads n) (symbol reads n)

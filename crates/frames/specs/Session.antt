@@ -1,6 +1,6 @@
 -- A session: what each line makes of the memory and answers, and what a whole text answers.
 use mathlib.Core.List.{List, [], _∷_, _++_}
-use Prim.Native.Nat.{ℕ, _*_}
+use Prim.Native.Nat.{ℕ, _+_, _*_}
 use lib.Dec.{leb}
 use lib.ListN.{length, take, drop}
 use Rattle.refusals.specs.declared.Verdict.{Verdict}
@@ -20,14 +20,17 @@ use Rattle.frames.specs.declared.Frame.{Frame}
 use Rattle.frames.specs.declared.Frame.the-variants.{SetUp, Write, Release, Read, Unknown}
 use Rattle.lines.specs.Lines.{linesOf}
 use Rattle.lines.specs.Hex.{bytesOf}
-use Rattle.frames.specs.Frames.{lineRefusal, frameOf, answerTo, answerToNone, refusalSaid, said, printed}
+use Rattle.frames.specs.Frames.{lineRefusal, frameOf, answerByte, noFrameByte, refusalSaid, said, printed}
 
--- The bytes that a session reads, and those of its store.
+-- The bytes that a session reads, those of its store, and room for any output line.
 abbrev pub mostText : ℕ
 mostText = 32768
 
 abbrev pub mostStore : ℕ
 mostStore = 16384
+
+abbrev pub mostOutput : ℕ
+mostOutput = 2 * (2 + mostStore) + 1
 
 -- What a line leaves: the memory, the store, and the bytes of the output line.
 pub record After : Type 0 where
@@ -53,10 +56,10 @@ setUpRefusal sh = setUpOf sh .verdict then check 20 0 (leb (storeSize sh) mostSt
 -- A memory set up afresh, with a zeroed store. It answers the total of banks and the most reads of a group. Refused, it keeps the earlier memory.
 abbrev pub setUpDone : Session → (store : List ℕ) → Shape → After
 setUpDone session store sh =
-    unlessRefused (setUpRefusal sh) session store (answerTo 1) (record {
+    unlessRefused (setUpRefusal sh) session store (answerByte 1) (record {
       session = Running (setUpOf sh .state);
       store = zeros (length store);
-      answer = answerTo 1 ∷ 0 ∷ (sh .m * banks sh) ∷ limitOf (sh .k) ∷ [];
+      answer = answerByte 1 ∷ 0 ∷ (sh .m * banks sh) ∷ limitOf (sh .k) ∷ [];
     })
 
 -- ---- 02, 03 and 04
@@ -76,14 +79,14 @@ packetsBy memory (read reads out schedule) = cycleOutput (memory .state) (memory
 
 -- 19, before any accepted 01; else an operation on the memory.
 abbrev pub operationDone : Session → (store : List ℕ) → (kind : ℕ) → (Shape → Operation) → After
-operationDone Fresh store kind operation = refusedWith Fresh store (answerTo kind) 19 0
+operationDone Fresh store kind operation = refusedWith Fresh store (answerByte kind) 19 0
 operationDone (Running st) store kind operation =
     let memory = memoryOf st store in
     let op = operation (st .shape) in
     record {
       session = Running (outcomeOf memory op .state);
       store = storeAfter memory op ++ behind st store;
-      answer = answerTo kind ∷ said (packetsBy memory op) (outcomeOf memory op .answer);
+      answer = answerByte kind ∷ said (packetsBy memory op) (outcomeOf memory op .answer);
     }
 
 -- A cycle has buffers of the size that its reads need, so 16 never applies.
@@ -98,12 +101,12 @@ frameDone session store bytes (SetUp sh) = setUpDone session store sh
 frameDone session store bytes (Write row) = operationDone session store 2 (λ sh. write row (drop 2 bytes))
 frameDone session store bytes (Release row) = operationDone session store 3 (λ sh. release row)
 frameDone session store bytes Read = operationDone session store 4 (cycleOf (drop 1 bytes))
-frameDone session store bytes Unknown = refusedWith session store answerToNone 18 0
+frameDone session store bytes Unknown = refusedWith session store noFrameByte 18 0
 
 -- What a line does: 17, or its frame.
 abbrev pub lineDone : Session → (store line : List ℕ) → After
 lineDone session store line =
-    unlessRefused (lineRefusal line) session store answerToNone (frameDone session store (bytesOf line) (frameOf (bytesOf line)))
+    unlessRefused (lineRefusal line) session store noFrameByte (frameDone session store (bytesOf line) (frameOf (bytesOf line)))
 
 -- What lines leave: the memory, the store, and the text that they print.
 pub record AfterLines : Type 0 where
@@ -129,11 +132,11 @@ abbrev pub textDone : Session → (store input : List ℕ) → AfterLines
 textDone session store input = linesDone session store (textRead input)
 
 -- A session from its start: what some lines leave, what a line then answers, and the whole session, from its text to its output.
-abbrev pub afterLines : List (List ℕ) → AfterLines
-afterLines lines = linesDone Fresh (zeros mostStore) lines
+abbrev pub fromStart : List (List ℕ) → AfterLines
+fromStart lines = linesDone Fresh (zeros mostStore) lines
 
 abbrev pub answerAfter : (lines : List (List ℕ)) → (line : List ℕ) → List ℕ
-answerAfter lines line = let after = afterLines lines in lineDone (after .session) (after .store) line .answer
+answerAfter lines line = let after = fromStart lines in lineDone (after .session) (after .store) line .answer
 
 abbrev pub sessionOf : List ℕ → List ℕ
-sessionOf input = afterLines (textRead input) .output
+sessionOf input = fromStart (textRead input) .output

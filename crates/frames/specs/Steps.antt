@@ -1,19 +1,19 @@
 -- What a step of a session promises.
 use mathlib.Core.Path.{_≡_}
 use mathlib.Core.List.{List}
-use Prim.Native.Nat.{ℕ, _-_, _≤_, _<_}
-use lib.ListN.{length}
-use Rattle.cells.specs.Cell.{cell, put}
+use Prim.Native.Nat.{ℕ, _≤_, _<_}
+use lib.ListN.{length, drop}
+use Rattle.cells.specs.Cell.{put}
 use Rattle.frames.specs.declared.Session.{Session}
 use Rattle.frames.specs.declared.Reply.{Reply}
 use Rattle.frames.specs.declared.Next.{Next}
-use Rattle.lines.specs.Lines.{lineAt}
+use Rattle.lines.specs.Lines.{firstLine, lineAt}
 use Rattle.frames.specs.Frames.{printed}
 use Rattle.frames.specs.Session.{After, lineDone}
 
 -- These bytes are printed at the front of an output, which has room for them: the length of the line, and what the output then holds.
-pub record Prints (bytes out : List ℕ) (len : ℕ) (outAfter : List ℕ) : Type 0 where
-  pub line : len ≡ length (printed bytes)
+pub record Prints (bytes out : List ℕ) (n : ℕ) (outAfter : List ℕ) : Type 0 where
+  pub len : n ≡ length (printed bytes)
   pub room : length (printed bytes) ≤ length out
   pub output : outAfter ≡ put out 0 (printed bytes)
 
@@ -27,5 +27,5 @@ pub record Gives (after : After) (out : List ℕ) (r : Reply) (storeAfter outAft
 -- left, nothing has changed, and there is no output line.
 pub record Answers (session : Session) (store text : List ℕ) (at : ℕ) (out : List ℕ) (r : Next) (storeAfter outAfter : List ℕ) : Type 0 where
   pub next : at < length text → r .at ≡ lineAt text at .next
-  pub line : at < length text → Gives (lineDone session store (cell text at (lineAt text at .end - at))) out (r .reply) storeAfter outAfter
+  pub line : at < length text → Gives (lineDone session store (firstLine (drop at text))) out (r .reply) storeAfter outAfter
   pub none : length text ≤ at → (r ≡ record { reply = record { session = session; len = 0 }; at = at }) × (storeAfter ≡ store) × (outAfter ≡ out)

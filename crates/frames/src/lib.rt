@@ -1,22 +1,22 @@
 // The session file: hexadecimal frames, one a line, and what a session makes of each and answers.
 ghost use mathlib.Core.Path.{_≡_};
 ghost use mathlib.Core.List.{List, [], _∷_};
-ghost use Prim.Native.Nat.{ℕ, _+_, _*_, _≤_, _<_};
+ghost use Prim.Native.Nat.{ℕ, _+_, _*_, _≤_, _<_, min};
 ghost use lib.ListN.{length, take};
 ghost use Rattle.cells.specs.Cell.{cell};
-ghost use Rattle.memory.specs.History.{write as writes, release as releases};
-ghost use Rattle.frames.specs.Frames.{lineRefusal, frameOf, said};
+ghost use Rattle.memory.specs.History.{write, release};
+ghost use Rattle.frames.specs.Frames.{mostFrame, lineRefusal, frameOf, said};
 ghost use Rattle.frames.specs.Session.{mostStore, refusedWith, setUpRefusal, setUpDone, operationDone, cycleOf, frameDone, lineDone};
 ghost use Rattle.frames.specs.Laws.{TheSession};
 ghost use Rattle.frames.specs.Steps.{Prints, Gives, Answers};
-ghost use Rattle.frames.specs.Parts.{lesser, lentSize, Fits};
+ghost use Rattle.frames.specs.Parts.{lentSize, Fits};
 use layout::Shape;
 use memory::Answer;
 use memory::State;
 use refusals::Verdict;
 
 // The most characters of a line, the bytes that a session reads, those of its store, and room for any output line.
-pub const MOST_CHARACTERS: usize = 4096;
+const MOST_CHARACTERS: usize = 4096;
 
 pub const MOST_TEXT: usize = 32768;
 
@@ -35,7 +35,7 @@ pub enum Session {
     Running(State),
 }
 
-// What a line gives: the session, and how long its output line is.
+// What a line gives, or a text: the session, and how long its output is.
 pub struct Reply {
     pub session: Session,
     pub len: usize,
@@ -78,7 +78,7 @@ fn judge_line(line: &[u8]) -> Verdict
     Verdict::Accepted
 }
 
-// A byte as a word: an index's bound is then all that its use asks.
+// A byte as a word. A function of its own, so that where it is used only the index is left to bound.
 fn wide(b: u8) -> usize
     ensures { λ r. ⌜ r ≡ b ⌝ }
 {
@@ -122,7 +122,7 @@ fn frame_of(bytes: &[u8]) -> Frame
     }
 }
 
-// The bytes of an answer, over the front of `bytes`, which has the packets of a cycle from index 2 on. Gives how many they are.
+// The bytes of an answer, over the front of `bytes`, which has the packets of a cycle from index 2 on. Gives the number of the answer's bytes.
 fn say(first: u8, answer: Answer, bytes: &mut [u8], packets: usize) -> usize
     requires { ⌜ Fits answer × (4 ≤ length (now bytes)) × (2 + packets ≤ length (now bytes)) ⌝ }
     ensures { λ r. ⌜ (r ≤ length (now (bytes .exit))) × (take r (now (bytes .exit)) ≡ first ∷ said (cell (now (bytes .entry)) 2 packets) answer) ⌝ }
@@ -145,7 +145,7 @@ fn say(first: u8, answer: Answer, bytes: &mut [u8], packets: usize) -> usize
 }
 
 // Prints bytes as a line. Gives its length.
-fn put_line(bytes: &[u8], out: &mut [u8]) -> usize
+fn print_line(bytes: &[u8], out: &mut [u8]) -> usize
     requires { ⌜ 2 * length (now bytes) + 1 ≤ length (now out) ⌝ }
     ensures { λ r. ⌜ Prints (now (bytes .entry)) (now (out .entry)) r (now (out .exit)) ⌝ }
 {
@@ -156,13 +156,13 @@ fn put_line(bytes: &[u8], out: &mut [u8]) -> usize
 }
 
 // Prints an answer that has no packets.
-fn put_answer(first: u8, answer: Answer, out: &mut [u8; MOST_OUTPUT]) -> usize
+fn print_answer(first: u8, answer: Answer, out: &mut [u8; MOST_OUTPUT]) -> usize
     requires { ⌜ Fits answer ⌝ }
     ensures { λ r. ⌜ Prints (first ∷ said [] answer) (now (out .entry)) r (now (out .exit)) ⌝ }
 {
     let mut bytes = [0u8; 4];
     let len = say(first, answer, &mut bytes[..], 0);
-    put_line(&bytes[..len], &mut out[..])
+    print_line(&bytes[..len], &mut out[..])
 }
 
 // Prints a refusal. The session stays as it is.
@@ -176,13 +176,13 @@ fn refuse(
     requires { ⌜ place < 65536 ⌝ }
     ensures { λ r. ⌜ ((s : List ℕ) → Gives (refusedWith session s first number place) (now (out .entry)) r s (now (out .exit))) ⌝ }
 {
-    let len = put_answer(first, Answer::Refused(number, place), out);
+    let len = print_answer(first, Answer::Refused(number, place), out);
     Reply { session, len }
 }
 
 // How many bytes of the session's store a memory of this shape is lent: as many as it needs, if there are so many.
 fn lent_size(shape: Shape) -> usize
-    ensures { λ r. ⌜ r ≡ lesser (lentSize shape) mostStore ⌝ }
+    ensures { λ r. ⌜ r ≡ min (lentSize shape) mostStore ⌝ }
 {
     let verdict = layout::judge_shape(shape);
     if let Verdict::Refused(_, _) = verdict {
@@ -194,7 +194,7 @@ fn lent_size(shape: Shape) -> usize
 
 // The bytes of so many packets of p bytes, if there is room for them.
 fn packets_size(count: usize, p: usize) -> usize
-    ensures { λ r. ⌜ r ≡ lesser (count * p) mostStore ⌝ }
+    ensures { λ r. ⌜ r ≡ min (count * p) mostStore ⌝ }
 {
     if p == 0 {
         return 0;
@@ -221,7 +221,7 @@ fn judge_set_up(shape: Shape) -> Verdict
 }
 
 // Frame 01.
-fn set_up(session: Session, shape: Shape, store: &mut [u8], out: &mut [u8; MOST_OUTPUT]) -> Reply
+fn do_set_up(session: Session, shape: Shape, store: &mut [u8], out: &mut [u8; MOST_OUTPUT]) -> Reply
     ensures { λ r. ⌜ Gives (setUpDone session (now (store .entry)) shape) (now (out .entry)) r (now (store .exit)) (now (out .exit)) ⌝ }
 {
     let verdict = judge_set_up(shape);
@@ -231,7 +231,7 @@ fn set_up(session: Session, shape: Shape, store: &mut [u8], out: &mut [u8; MOST_
     cells::clear(store);
     let group = simplex::group_of(shape.k);
     let bytes = [0x81, 0, (shape.m * group.banks) as u8, group.limit as u8];
-    let len = put_line(&bytes[..], &mut out[..]);
+    let len = print_line(&bytes[..], &mut out[..]);
     let made = State::set_up(shape.k, shape.m, shape.p, shape.g);
     let state = made.state;
     Reply {
@@ -241,7 +241,7 @@ fn set_up(session: Session, shape: Shape, store: &mut [u8], out: &mut [u8; MOST_
 }
 
 // Frame 02.
-fn write(
+fn do_write(
     session: Session,
     row: usize,
     packets: &[u8],
@@ -249,7 +249,7 @@ fn write(
     out: &mut [u8; MOST_OUTPUT],
 ) -> Reply
     requires { ⌜ length (now store) ≡ mostStore ⌝ }
-    ensures { λ r. ⌜ Gives (operationDone session (now (store .entry)) 2 (λ sh. writes row (now (packets .entry)))) (now (out .entry)) r (now (store .exit)) (now (out .exit)) ⌝ }
+    ensures { λ r. ⌜ Gives (operationDone session (now (store .entry)) 2 (λ sh. write row (now (packets .entry)))) (now (out .entry)) r (now (store .exit)) (now (out .exit)) ⌝ }
 {
     let Session::Running(state) = session else {
         return refuse(session, 0x82, 19, 0, out);
@@ -257,7 +257,7 @@ fn write(
     let size = lent_size(state.shape);
     let outcome = state.write(&mut store[..size], row, packets);
     let answer = outcome.answer;
-    let len = put_answer(0x82, answer, out);
+    let len = print_answer(0x82, answer, out);
     let state = outcome.state;
     Reply {
         session: Session::Running(state),
@@ -266,15 +266,15 @@ fn write(
 }
 
 // Frame 03.
-fn release(session: Session, row: usize, out: &mut [u8; MOST_OUTPUT]) -> Reply
-    ensures { λ r. ⌜ ((s : List ℕ) → Gives (operationDone session s 3 (λ sh. releases row)) (now (out .entry)) r s (now (out .exit))) ⌝ }
+fn do_release(session: Session, row: usize, out: &mut [u8; MOST_OUTPUT]) -> Reply
+    ensures { λ r. ⌜ ((s : List ℕ) → Gives (operationDone session s 3 (λ sh. release row)) (now (out .entry)) r s (now (out .exit))) ⌝ }
 {
     let Session::Running(state) = session else {
         return refuse(session, 0x83, 19, 0, out);
     };
     let outcome = state.release(row);
     let answer = outcome.answer;
-    let len = put_answer(0x83, answer, out);
+    let len = print_answer(0x83, answer, out);
     let state = outcome.state;
     Reply {
         session: Session::Running(state),
@@ -283,8 +283,8 @@ fn release(session: Session, row: usize, out: &mut [u8; MOST_OUTPUT]) -> Reply
 }
 
 // Frame 04. The schedule is not printed.
-fn read(session: Session, reads: &[u8], store: &[u8], out: &mut [u8; MOST_OUTPUT]) -> Reply
-    requires { ⌜ (length (now reads) < 2048) × (length (now store) ≡ mostStore) ⌝ }
+fn do_read(session: Session, reads: &[u8], store: &[u8], out: &mut [u8; MOST_OUTPUT]) -> Reply
+    requires { ⌜ (length (now reads) < mostFrame) × (length (now store) ≡ mostStore) ⌝ }
     ensures { λ r. ⌜ Gives (operationDone session (now (store .entry)) 4 (cycleOf (now (reads .entry)))) (now (out .entry)) r (now (store .entry)) (now (out .exit)) ⌝ }
 {
     let Session::Running(state) = session else {
@@ -303,7 +303,7 @@ fn read(session: Session, reads: &[u8], store: &[u8], out: &mut [u8; MOST_OUTPUT
     );
     let answer = outcome.answer;
     let said = say(0x84, answer, &mut bytes[..], size);
-    let len = put_line(&bytes[..said], &mut out[..]);
+    let len = print_line(&bytes[..said], &mut out[..]);
     let state = outcome.state;
     Reply {
         session: Session::Running(state),
@@ -318,15 +318,15 @@ fn do_frame(
     store: &mut [u8; MOST_STORE],
     out: &mut [u8; MOST_OUTPUT],
 ) -> Reply
-    requires { ⌜ (1 ≤ length (now bytes)) × (length (now bytes) ≤ 2048) ⌝ }
+    requires { ⌜ (1 ≤ length (now bytes)) × (length (now bytes) ≤ mostFrame) ⌝ }
     ensures { λ r. ⌜ Gives (frameDone session (now (store .entry)) (now (bytes .entry)) (frameOf (now (bytes .entry)))) (now (out .entry)) r (now (store .exit)) (now (out .exit)) ⌝ }
 {
     let frame = frame_of(bytes);
     match frame {
-        Frame::SetUp(shape) => set_up(session, shape, &mut store[..], out),
-        Frame::Write(row) => write(session, row, &bytes[2..], &mut store[..], out),
-        Frame::Release(row) => release(session, row, out),
-        Frame::Read => read(session, &bytes[1..], &store[..], out),
+        Frame::SetUp(shape) => do_set_up(session, shape, &mut store[..], out),
+        Frame::Write(row) => do_write(session, row, &bytes[2..], &mut store[..], out),
+        Frame::Release(row) => do_release(session, row, out),
+        Frame::Read => do_read(session, &bytes[1..], &store[..], out),
         Frame::Unknown => refuse(session, 0xff, 18, 0, out),
     }
 }

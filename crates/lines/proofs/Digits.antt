@@ -10,6 +10,7 @@ use native.Mathlib.Omega.{arith}
 use borrow.Author.Tests.{lt-ltb, le-ltb, le-leb, lt-leb, ltb-true, eqb-true}
 use lib.Dec.{ltb, eqb}
 use lib.ListN.{length, getD, take, drop, set}
+use lib.Pow.{areBytes}
 use lib.Seq.{drop-cons}
 use Rattle.refusals.specs.Verdict.{between, check}
 use Rattle.refusals.proofs.Verdicts.{both, between-words, check-passed, all-accepted}
@@ -17,7 +18,7 @@ use Rattle.cells.specs.Cell.{put}
 use Rattle.cells.proofs.Turns.{put-more}
 use Rattle.lines.specs.Lines.{each}
 use Rattle.lines.specs.Hex.{isDigit, valueOf, digitOf, bytesOf, digitsOf}
-use Rattle.lines.specs.Laws.{areBytes, TheDigits}
+use Rattle.lines.specs.Laws.{TheDigits}
 
 -- ---- one character
 

@@ -10,7 +10,6 @@ use borrow.Author.Tests.{eqb-true, ltb-true, ltb-false, lt-ltb, le-ltb, eq-eqb, 
 use lib.Dec.{eqb, ltb}
 use lib.ListN.{length, getD, take, drop, length-drop, drop-of-length-le}
 use lib.Seq.{drop-cons, drop-drop}
-use Rattle.cells.specs.Cell.{cell}
 use Rattle.lines.specs.Lines.{lineFeed, inFront, linesOf, firstLine, lineEnd, lineAt, each, noLineFeed, joined, closed}
 use Rattle.lines.specs.Laws.{TheLines}
 
@@ -53,7 +52,7 @@ first-cons c (d ∷ text) = go (eqb c lineFeed) (linesOf (d ∷ text)) (firstLin
     go false lines line same rest = rw (rest, add-one (length line), add-one (suc (length line)))
 
 -- A text that is not empty has its first line, and then the lines behind. Where that line has no line feed, nothing is behind.
-pub first-line : (text : List ℕ) → 0 < length text → linesOf text ≡ firstLine text ∷ linesOf (drop (length (firstLine text) + 1) text)
+first-line : (text : List ℕ) → 0 < length text → linesOf text ≡ firstLine text ∷ linesOf (drop (length (firstLine text) + 1) text)
 first-line [] h = absurd (not-suc-le-zero h)
 first-line (c ∷ text) h = first-cons c text
 
@@ -90,6 +89,10 @@ module _ (text : List ℕ) (at : ℕ) where
   pub end-within : at ≤ length text → lineEnd text at ≤ length text
   end-within h = omega (arith, first-within (drop at text), length-drop at text)
 
+  -- what stands from there to its end
+  pub line-part : take (lineEnd text at - at) (drop at text) ≡ firstLine (drop at text)
+  line-part = let l : lineEnd text at - at ≡ length (firstLine (drop at text)) = omega arith in rw l (first-take (drop at text))
+
   -- what a reader finds there
   pub line-ended : (end : ℕ) → end ≡ lineEnd text at → end < length text → record { end = end; next = end + 1 } ≡ lineAt text at
   line-ended end e h = let l : lineEnd text at < length text = omega arith in rw (e, lt-ltb _ _ l)
@@ -110,13 +113,11 @@ behind text at = go (ltb (lineEnd text at) (length text)) refl
         ap linesOf (drop-of-length-le text k ∙ sym (drop-of-length-le text h))
 
 next : (text : List ℕ) (at : ℕ) → at < length text
-    → linesOf (drop at text) ≡ cell text at (lineAt text at .end - at) ∷ linesOf (drop (lineAt text at .next) text)
+    → linesOf (drop at text) ≡ firstLine (drop at text) ∷ linesOf (drop (lineAt text at .next) text)
 next text at h =
-    let l : lineEnd text at - at ≡ length (firstLine (drop at text)) = omega arith in
     let a : at + (length (firstLine (drop at text)) + 1) ≡ lineEnd text at + 1 = omega arith in
     first-line (drop at text) (rw length-drop (omega arith))
-    ∙ ap₂ {C = List (List ℕ)} (λ (line : List ℕ) (lines : List (List ℕ)). line ∷ lines)
-    (sym (rw l (first-take (drop at text))))
+    ∙ ap (λ (lines : List (List ℕ)). firstLine (drop at text) ∷ lines)
     (ap linesOf (drop-drop (length (firstLine (drop at text)) + 1) at text ∙ ap (λ (i : ℕ). drop i text) a) ∙ behind text at)
 
 on : (text : List ℕ) (at : ℕ) → at < length text → (at < lineAt text at .next) × (lineAt text at .next ≤ length text)
@@ -163,4 +164,4 @@ all-unbroken (c ∷ text) = go (eqb c lineFeed) refl (linesOf text) (all-unbroke
     go false e lines u = front-unbroken c e lines u
 
 pub the-lines : TheLines
-the-lines = record { whole = whole; unbroken = all-unbroken; next = next; none = none; on = on }
+the-lines = record { whole = whole; unbroken = all-unbroken; next = next; none = none; part = line-part; on = on }

@@ -7,7 +7,7 @@ ghost use Rattle.cells.specs.Cell.{put};
 ghost use Rattle.lines.specs.Lines.{each};
 ghost use Rattle.lines.specs.Hex.{isDigit, valueOf, digitOf, bytesOf, digitsOf};
 
-// Whether a character is a digit. Without branches, it is the definition as it stands.
+// Whether a character is a digit. Written without branches, so that it is the definition itself.
 fn is_digit(c: u8) -> bool
     ensures { λ r. ⌜ r ≡ isDigit c ⌝ }
 {

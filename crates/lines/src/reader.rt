@@ -29,7 +29,7 @@ fn line_end(text: &[u8], at: usize) -> usize
 }
 
 // The line that starts at `at`. Where the text ends there, there is none, and `next` is `at`.
-pub fn line_at(text: &[u8], at: usize) -> Line
+fn line_at(text: &[u8], at: usize) -> Line
     ensures { λ r. ⌜ r ≡ lineAt (now (text .entry)) at ⌝ }
 {
     let end = line_end(text, at);
@@ -55,7 +55,7 @@ impl<'a> Reader<'a> {
         line_at(self.text, self.at)
     }
 
-    // The reader moved on to where another line starts.
+    // The reader moved on to where another line starts, for a caller that holds a reader.
     pub fn moved(self, at: usize) -> Reader<'a>
         ensures { λ r. ⌜ (r .text ≡ self .entry .text) × (r .at ≡ at) ⌝ }
     {

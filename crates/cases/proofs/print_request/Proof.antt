@@ -10,20 +10,20 @@ Inv-loop k counts i₀ t7 i = i ≤ 5
 abbrev μ-loop : tie.MeasureT-loop
 μ-loop k counts i₀ t7 i = 5 - i
 
-slice-aggregate-text : tie.Need-slice-aggregate-text Inv-loop μ-loop
-slice-aggregate-text c = search needs
+slice-aggregate-print-text : tie.Need-slice-aggregate-print-text Inv-loop μ-loop
+slice-aggregate-print-text c = search needs
 
-text-requires : tie.Need-text-requires Inv-loop μ-loop
-text-requires c κs = search needs
+print-text-requires : tie.Need-print-text-requires Inv-loop μ-loop
+print-text-requires c κs = search needs
 
-number-requires : tie.Need-number-requires Inv-loop μ-loop
-number-requires c κs = search needs
+print-number-requires : tie.Need-print-number-requires Inv-loop μ-loop
+print-number-requires c κs = search needs
 
-slice-aggregate-text-2 : tie.Need-slice-aggregate-text-2 Inv-loop μ-loop
-slice-aggregate-text-2 c = search needs
+slice-aggregate-print-text-2 : tie.Need-slice-aggregate-print-text-2 Inv-loop μ-loop
+slice-aggregate-print-text-2 c = search needs
 
-text-requires-2 : tie.Need-text-requires-2 Inv-loop μ-loop
-text-requires-2 c κs = search needs
+print-text-requires-2 : tie.Need-print-text-requires-2 Inv-loop μ-loop
+print-text-requires-2 c κs = search needs
 
 loop-holds : tie.Need-loop-holds Inv-loop μ-loop
 loop-holds c = search needs
@@ -46,11 +46,11 @@ loop-less c = search needs
 loop-again : tie.Need-loop-again Inv-loop μ-loop
 loop-again c = search needs
 
-slice-aggregate-text-3 : tie.Need-slice-aggregate-text-3 Inv-loop μ-loop
-slice-aggregate-text-3 c = search needs
+slice-aggregate-print-text-3 : tie.Need-slice-aggregate-print-text-3 Inv-loop μ-loop
+slice-aggregate-print-text-3 c = search needs
 
-text-requires-3 : tie.Need-text-requires-3 Inv-loop μ-loop
-text-requires-3 c κs = search needs
+print-text-requires-3 : tie.Need-print-text-requires-3 Inv-loop μ-loop
+print-text-requires-3 c κs = search needs
 
 returns : tie.Need-returns Inv-loop μ-loop
 returns c = search needs
@@ -61,11 +61,11 @@ print-request-spec =
     (tie.spec
     Inv-loop
     μ-loop
-    slice-aggregate-text
-    text-requires
-    number-requires
-    slice-aggregate-text-2
-    text-requires-2
+    slice-aggregate-print-text
+    print-text-requires
+    print-number-requires
+    slice-aggregate-print-text-2
+    print-text-requires-2
     loop-holds
     mul-print-count
     array-read-print-count
@@ -73,6 +73,6 @@ print-request-spec =
     add-i
     loop-less
     loop-again
-    slice-aggregate-text-3
-    text-requires-3
+    slice-aggregate-print-text-3
+    print-text-requires-3
     returns)

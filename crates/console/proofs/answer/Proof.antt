@@ -9,18 +9,14 @@ use lib.ListN.{length, drop, length-take}
 use lib.Seq.{length-take-le}
 use denote.Ref.{now}
 use Rattle.lines.specs.Lines.{linesOf}
-use Rattle.frames.specs.Session.{mostText, linesDone}
+use Rattle.frames.specs.Session.{mostText, mostOutput, linesDone}
 use Rattle.frames.proofs.Sessions.{Ahead, at-first, at-last, and-on, turn, further, same-room}
 use Rattle.console.proofs.answer.Statement.{statement}
 use Rattle.console.proofs.answer.Tie as tie
 
--- the room for a line
-abbrev most : ℕ
-most = 32773
-
 abbrev Inv-loop : tie.InvT-loop
 Inv-loop text store₀ read out₀ session₀ len₀ at₀ store out session len at =
-    (at ≤ length read) × (length out ≡ most) × (len ≤ most * at)
+    (at ≤ length read) × (length out ≡ mostOutput) × (len ≤ mostOutput * at)
     × Ahead (linesDone session₀ store₀ (linesOf read)) (linesDone session store (linesOf (drop at read))) len
 
 abbrev μ-loop : tie.MeasureT-loop

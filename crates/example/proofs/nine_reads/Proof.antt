@@ -5,34 +5,34 @@ use Rattle.example.proofs.nine_reads.Statement.{statement}
 use Rattle.example.proofs.nine_reads.Tie as tie
 
 abbrev Inv-loop : tie.InvT-loop
-Inv-loop list₀ n₀ list n = n ≤ 9
+Inv-loop reads₀ n₀ reads n = n ≤ 9
 
 abbrev μ-loop : tie.MeasureT-loop
-μ-loop list₀ n₀ list n = 9 - n
+μ-loop reads₀ n₀ reads n = 9 - n
 
 loop-holds : tie.Need-loop-holds Inv-loop μ-loop
 loop-holds c = search needs
 
-cast-list : tie.Need-cast-list Inv-loop μ-loop
-cast-list c = search needs
+cast-reads : tie.Need-cast-reads Inv-loop μ-loop
+cast-reads c = search needs
 
-mul-list : tie.Need-mul-list Inv-loop μ-loop
-mul-list c = search needs
+mul-reads : tie.Need-mul-reads Inv-loop μ-loop
+mul-reads c = search needs
 
-array-write-list : tie.Need-array-write-list Inv-loop μ-loop
-array-write-list c = search needs
+array-write-reads : tie.Need-array-write-reads Inv-loop μ-loop
+array-write-reads c = search needs
 
-cast-list-2 : tie.Need-cast-list-2 Inv-loop μ-loop
-cast-list-2 c = search needs
+cast-reads-2 : tie.Need-cast-reads-2 Inv-loop μ-loop
+cast-reads-2 c = search needs
 
-mul-list-2 : tie.Need-mul-list-2 Inv-loop μ-loop
-mul-list-2 c = search needs
+mul-reads-2 : tie.Need-mul-reads-2 Inv-loop μ-loop
+mul-reads-2 c = search needs
 
-add-list : tie.Need-add-list Inv-loop μ-loop
-add-list c = search needs
+add-reads : tie.Need-add-reads Inv-loop μ-loop
+add-reads c = search needs
 
-array-write-list-2 : tie.Need-array-write-list-2 Inv-loop μ-loop
-array-write-list-2 c = search needs
+array-write-reads-2 : tie.Need-array-write-reads-2 Inv-loop μ-loop
+array-write-reads-2 c = search needs
 
 add-n : tie.Need-add-n Inv-loop μ-loop
 add-n c = search needs
@@ -53,13 +53,13 @@ nine-reads-spec =
     Inv-loop
     μ-loop
     loop-holds
-    cast-list
-    mul-list
-    array-write-list
-    cast-list-2
-    mul-list-2
-    add-list
-    array-write-list-2
+    cast-reads
+    mul-reads
+    array-write-reads
+    cast-reads-2
+    mul-reads-2
+    add-reads
+    array-write-reads-2
     add-n
     loop-less
     loop-again

@@ -8,11 +8,11 @@ use Rattle.example.proofs.print_cycles.Tie as tie
 nine-reads-requires : tie.Need-nine-reads-requires
 nine-reads-requires c κs = search needs
 
-mul-list : tie.Need-mul-list
-mul-list c = search needs
+mul-reads : tie.Need-mul-reads
+mul-reads c = search needs
 
-array-share-prefix-list : tie.Need-array-share-prefix-list
-array-share-prefix-list c = search needs
+array-share-prefix-reads : tie.Need-array-share-prefix-reads
+array-share-prefix-reads c = search needs
 
 slice-aggregate-print-cycle : tie.Need-slice-aggregate-print-cycle
 slice-aggregate-print-cycle c = simp length-take (omega arith)
@@ -40,8 +40,8 @@ print-cycles-spec =
     tie.close
     (tie.spec
     nine-reads-requires
-    mul-list
-    array-share-prefix-list
+    mul-reads
+    array-share-prefix-reads
     slice-aggregate-print-cycle
     print-cycle-requires
     slice-aggregate-read

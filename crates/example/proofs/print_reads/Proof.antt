@@ -5,10 +5,10 @@ use Rattle.example.proofs.print_reads.Statement.{statement}
 use Rattle.example.proofs.print_reads.Tie as tie
 
 abbrev Inv-loop : tie.InvT-loop
-Inv-loop list out schedule n₀ n = n ≤ 8
+Inv-loop reads out schedule n₀ n = n ≤ 8
 
 abbrev μ-loop : tie.MeasureT-loop
-μ-loop list out schedule n₀ n = 8 - n
+μ-loop reads out schedule n₀ n = 8 - n
 
 loop-holds : tie.Need-loop-holds Inv-loop μ-loop
 loop-holds c = search needs

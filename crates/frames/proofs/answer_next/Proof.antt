@@ -5,7 +5,7 @@ use native.Mathlib.Omega.{arith}
 use borrow.Author.Needs.{needs}
 use lib.ListN.{length}
 use denote.Ref.{now}
-use Rattle.lines.proofs.Lines.{end-within}
+use Rattle.lines.proofs.Lines.{end-within, line-part}
 use Rattle.frames.proofs.answer_next.Statement.{statement}
 use Rattle.frames.proofs.answer_next.Tie as tie
 
@@ -41,9 +41,10 @@ step-requires c κs = search needs
 returns-2 : tie.Need-returns-2
 returns-2 c =
     let n = c .before .before .before .before in
+    let a = n .before .before .before .args in
     record {
       next = λ h. rw (n .next-line .ensures);
-      line = λ h. rw (n .next-line .ensures) at (c .step .ensures);
+      line = λ h. rw (← line-part (now (a .text)) (a .at)) (rw (n .next-line .ensures) at (c .step .ensures));
       none = λ h. absurd (omega arith);
     }
 

@@ -33,44 +33,44 @@ frame-of-requires c κs = search needs
 enum-known-frame : tie.Need-enum-known-frame
 enum-known-frame c = search needs
 
-set-up-requires : tie.Need-set-up-requires
-set-up-requires c κs = search needs
+do-set-up-requires : tie.Need-do-set-up-requires
+do-set-up-requires c κs = search needs
 
 enum-known-frame-2 : tie.Need-enum-known-frame-2
 enum-known-frame-2 c = search needs
 
-sub-write : tie.Need-sub-write
-sub-write c = long c
+sub-do-write : tie.Need-sub-do-write
+sub-do-write c = long c
 
-part-write-start : tie.Need-part-write-start
-part-write-start c = long c
+part-do-write-start : tie.Need-part-do-write-start
+part-do-write-start c = long c
 
-part-write-end : tie.Need-part-write-end
-part-write-end c = search needs
+part-do-write-end : tie.Need-part-do-write-end
+part-do-write-end c = search needs
 
-write-requires : tie.Need-write-requires
-write-requires c κs = search needs
+do-write-requires : tie.Need-do-write-requires
+do-write-requires c κs = search needs
 
 enum-known-frame-3 : tie.Need-enum-known-frame-3
 enum-known-frame-3 c = search needs
 
-release-requires : tie.Need-release-requires
-release-requires c κs = search needs
+do-release-requires : tie.Need-do-release-requires
+do-release-requires c κs = search needs
 
 enum-told : tie.Need-enum-told
 enum-told c = search needs
 
-sub-read : tie.Need-sub-read
-sub-read c = search needs
+sub-do-read : tie.Need-sub-do-read
+sub-do-read c = search needs
 
-part-read-start : tie.Need-part-read-start
-part-read-start c = search needs
+part-do-read-start : tie.Need-part-do-read-start
+part-do-read-start c = search needs
 
-part-read-end : tie.Need-part-read-end
-part-read-end c = search needs
+part-do-read-end : tie.Need-part-do-read-end
+part-do-read-end c = search needs
 
-read-requires : tie.Need-read-requires
-read-requires c κs = search needs
+do-read-requires : tie.Need-do-read-requires
+do-read-requires c κs = search needs
 
 enum-told-2 : tie.Need-enum-told-2
 enum-told-2 c = search needs
@@ -80,23 +80,23 @@ refuse-requires c κs = search needs
 
 returns : tie.Need-returns
 unfolding frameDone
-returns c = let k = c .before .before .before .before in by-kind (k .before .before) _ (k .frame .given .1) (c .set-up .ensures)
+returns c = let k = c .before .before .before .before in by-kind (k .before .before) _ (k .frame .given .1) (c .do-set-up .ensures)
 
 returns-2 : tie.Need-returns-2
 unfolding frameDone
 returns-2 c =
     let k = c .before .before .before .before .before in
-    by-kind (k .before .before) _ (k .frame2 .given .1) (rw part-to-end at (c .write .ensures))
+    by-kind (k .before .before) _ (k .frame2 .given .1) (rw part-to-end at (c .do-write .ensures))
 
 returns-3 : tie.Need-returns-3
 unfolding frameDone
-returns-3 c = let k = c .before .before .before in by-kind (k .before .before) _ (k .frame3 .given .1) (c .release .ensures _)
+returns-3 c = let k = c .before .before .before in by-kind (k .before .before) _ (k .frame3 .given .1) (c .do-release .ensures _)
 
 returns-4 : tie.Need-returns-4
 unfolding frameDone
 returns-4 c =
     let k = c .before .before .before .before .before in
-    by-kind (k .before .before) _ (k .enum-told .given .1) (rw part-to-end at (c .read .ensures))
+    by-kind (k .before .before) _ (k .enum-told .given .1) (rw part-to-end at (c .do-read .ensures))
 
 returns-5 : tie.Need-returns-5
 unfolding frameDone
@@ -108,19 +108,19 @@ do-frame-spec =
     (tie.spec
     frame-of-requires
     enum-known-frame
-    set-up-requires
+    do-set-up-requires
     enum-known-frame-2
-    sub-write
-    part-write-start
-    part-write-end
-    write-requires
+    sub-do-write
+    part-do-write-start
+    part-do-write-end
+    do-write-requires
     enum-known-frame-3
-    release-requires
+    do-release-requires
     enum-told
-    sub-read
-    part-read-start
-    part-read-end
-    read-requires
+    sub-do-read
+    part-do-read-start
+    part-do-read-end
+    do-read-requires
     enum-told-2
     refuse-requires
     returns

@@ -1,11 +1,10 @@
 -- `frames::lent_size` meets its contract: by the shape's verdict, and then by the room.
 use mathlib.Core.Path.{_≡_, sym, _∙_}
+use native.Mathlib.Omega.{arith}
 use borrow.Author.Needs.{needs}
-use borrow.Author.Tests.{le-leb, lt-leb}
 use Rattle.refusals.specs.declared.Verdict.the-variants.{Accepted}
 use Rattle.layout.specs.Shape.{shapeRefusal}
 use Rattle.layout.proofs.Ranges.{range-words}
-use Rattle.frames.specs.Session.{mostStore}
 use Rattle.frames.specs.Parts.{lentSize}
 use Rattle.frames.proofs.lent_size.Statement.{statement}
 use Rattle.frames.proofs.lent_size.Tie as tie
@@ -34,10 +33,10 @@ store-size-requires : tie.Need-store-size-requires
 store-size-requires c κs = range-words _ (accepted c)
 
 returns-2 : tie.Need-returns-2
-returns-2 c = rw (whole (c .before), le-leb _ mostStore (c .if1 .taken))
+returns-2 c = rw (whole (c .before)) (omega arith)
 
 returns-3 : tie.Need-returns-3
-returns-3 c = rw (whole (c .before), lt-leb _ mostStore (c .if1 .left))
+returns-3 c = rw (whole (c .before)) (omega arith)
 
 pub lent-size-spec : {M : Type 1} → statement M
 lent-size-spec =

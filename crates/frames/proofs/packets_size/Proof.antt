@@ -3,7 +3,6 @@ use Prim.Native.Nat.{_*_, _≤_, _<_}
 use native.Mathlib.Omega.{arith}
 use native.Mathlib.Nat.{le-div-iff-mul-le, div-lt-iff-lt-mul, mul-zero}
 use borrow.Author.Needs.{needs}
-use borrow.Author.Tests.{le-leb, lt-leb}
 use Rattle.frames.specs.Session.{mostStore}
 use Rattle.frames.proofs.packets_size.Statement.{statement}
 use Rattle.frames.proofs.packets_size.Tie as tie
@@ -25,10 +24,10 @@ mul-result : tie.Need-mul-result
 mul-result c = record { fits = omega (arith, room c) }
 
 returns-2 : tie.Need-returns-2
-returns-2 c = rw (le-leb _ mostStore (room c))
+returns-2 c = omega (arith, room c)
 
 returns-3 : tie.Need-returns-3
-returns-3 c = rw (lt-leb _ mostStore (none c))
+returns-3 c = omega (arith, none c)
 
 pub packets-size-spec : {M : Type 1} → statement M
 packets-size-spec = tie.close (tie.spec returns div-if2 mul-result returns-2 returns-3)

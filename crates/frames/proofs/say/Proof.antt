@@ -3,7 +3,7 @@ use native.Mathlib.Omega.{arith}
 use borrow.Author.Needs.{needs}
 use lib.ListN.{length-set}
 use denote.Ref.{now}
-use Rattle.frames.proofs.Printing.{three-set, four-set, behind-two}
+use Rattle.frames.proofs.Printing.{three-set, four-set, two-set}
 use Rattle.frames.proofs.say.Statement.{statement}
 use Rattle.frames.proofs.say.Tie as tie
 
@@ -60,7 +60,7 @@ same-length-2 c = search needs
 returns-2 : tie.Need-returns-2
 returns-2 c =
     let a = c .before .before .args in
-    (simp length-set (omega arith), rw (c .enum-told .given .1) (behind-two (now (a .bytes)) _ _ (a .packets) (omega arith)))
+    (simp length-set (omega arith), rw (c .enum-told .given .1) (two-set (now (a .bytes)) _ _ (a .packets) (omega arith)))
 
 same-length-3 : tie.Need-same-length-3
 same-length-3 c = search needs

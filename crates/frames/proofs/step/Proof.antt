@@ -11,7 +11,7 @@ use Rattle.lines.specs.Hex.{bytesOf}
 use Rattle.frames.specs.Frames.{lineRefusal}
 use Rattle.lines.proofs.Digits.{length-bytes}
 use Rattle.frames.proofs.Fitting.{line-near, near-place}
-use Rattle.frames.proofs.Done.{by-verdict}
+use Rattle.frames.proofs.Done.{same-verdict}
 use Rattle.frames.proofs.Framed.{Framed, framed, decoded}
 use Rattle.frames.proofs.step.Statement.{statement}
 use Rattle.frames.proofs.step.Tie as tie
@@ -44,7 +44,7 @@ returns : tie.Need-returns
 returns c =
     let v = c .before .before .before in
     let a = v .before .before .before .before .args in
-    by-verdict _ _ (a .session) (now (a .store)) _ _ (sym (refused v)) (c .refuse .ensures (now (a .store)))
+    same-verdict _ _ (a .session) (now (a .store)) _ _ (sym (refused v)) (c .refuse .ensures (now (a .store)))
 
 enum-told : tie.Need-enum-told
 enum-told c = search needs
@@ -74,7 +74,7 @@ returns-2 c =
     let d = c .before .before .before .before .before in
     let t = d .before .before in
     let a = t .before .before .before .before .args in
-    by-verdict _ _ (a .session) (now (a .store)) _ _ (sym (accepted t)) (rw (bytes d) at (c .do-frame .ensures))
+    same-verdict _ _ (a .session) (now (a .store)) _ _ (sym (accepted t)) (rw (bytes d) at (c .do-frame .ensures))
 
 pub step-spec : {M : Type 1} → statement M
 step-spec =

@@ -5,20 +5,20 @@ use lib.Seq.{length-take-le}
 use Rattle.cases.proofs.cycles.run.Statement.{statement}
 use Rattle.cases.proofs.cycles.run.Tie as tie
 
-slice-aggregate-text : tie.Need-slice-aggregate-text
-slice-aggregate-text c = search needs
+slice-aggregate-print-text : tie.Need-slice-aggregate-print-text
+slice-aggregate-print-text c = search needs
 
-text-requires : tie.Need-text-requires
-text-requires c κs = search needs
+print-text-requires : tie.Need-print-text-requires
+print-text-requires c κs = search needs
 
-number-requires : tie.Need-number-requires
-number-requires c κs = search needs
+print-number-requires : tie.Need-print-number-requires
+print-number-requires c κs = search needs
 
-slice-aggregate-text-2 : tie.Need-slice-aggregate-text-2
-slice-aggregate-text-2 c = search needs
+slice-aggregate-print-text-2 : tie.Need-slice-aggregate-print-text-2
+slice-aggregate-print-text-2 c = search needs
 
-text-requires-2 : tie.Need-text-requires-2
-text-requires-2 c κs = search needs
+print-text-requires-2 : tie.Need-print-text-requires-2
+print-text-requires-2 c κs = search needs
 
 mul-space : tie.Need-mul-space
 mul-space c = search needs
@@ -45,11 +45,11 @@ pub run-spec : {M : Type 1} → statement M
 run-spec =
     tie.close
     (tie.spec
-    slice-aggregate-text
-    text-requires
-    number-requires
-    slice-aggregate-text-2
-    text-requires-2
+    slice-aggregate-print-text
+    print-text-requires
+    print-number-requires
+    slice-aggregate-print-text-2
+    print-text-requires-2
     mul-space
     mul-space-2
     mul-space-3

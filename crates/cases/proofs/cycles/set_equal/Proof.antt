@@ -7,10 +7,10 @@ use Rattle.cases.proofs.cycles.set_equal.Statement.{statement}
 use Rattle.cases.proofs.cycles.set_equal.Tie as tie
 
 abbrev Inv-loop : tie.InvT-loop
-Inv-loop list₀ n₀ n-end list n = (n ≤ length list₀ / 3) × (length list ≡ length list₀)
+Inv-loop reads₀ n₀ n-end reads n = (n ≤ length reads₀ / 3) × (length reads ≡ length reads₀)
 
 abbrev μ-loop : tie.MeasureT-loop
-μ-loop list₀ n₀ n-end list n = length list₀ / 3 - n
+μ-loop reads₀ n₀ n-end reads n = length reads₀ / 3 - n
 
 loop-holds : tie.Need-loop-holds Inv-loop μ-loop
 loop-holds c = search needs

@@ -9,10 +9,10 @@ use Rattle.cases.proofs.cycles.set_mixed.Statement.{statement}
 use Rattle.cases.proofs.cycles.set_mixed.Tie as tie
 
 abbrev Inv-loop : tie.InvT-loop
-Inv-loop list₀ k n₀ n-end list n = (n ≤ length list₀ / 3) × (length list ≡ length list₀)
+Inv-loop reads₀ k n₀ n-end reads n = (n ≤ length reads₀ / 3) × (length reads ≡ length reads₀)
 
 abbrev μ-loop : tie.MeasureT-loop
-μ-loop list₀ k n₀ n-end list n = length list₀ / 3 - n
+μ-loop reads₀ k n₀ n-end reads n = length reads₀ / 3 - n
 
 product : (n : ℕ) → n / 8 * (n % 8 + 1) ≤ n / 8 * 8
 product n = mul-le-mul-left (n / 8) (omega arith)

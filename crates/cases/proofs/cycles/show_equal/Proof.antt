@@ -11,11 +11,11 @@ slice-aggregate-set-equal c = search needs
 set-equal-requires : tie.Need-set-equal-requires
 set-equal-requires c κs = search needs
 
-mul-list : tie.Need-mul-list
-mul-list c = search needs
+mul-reads : tie.Need-mul-reads
+mul-reads c = search needs
 
-array-share-prefix-list : tie.Need-array-share-prefix-list
-array-share-prefix-list c = search needs
+array-share-prefix-reads : tie.Need-array-share-prefix-reads
+array-share-prefix-reads c = search needs
 
 slice-aggregate-show-cycle : tie.Need-slice-aggregate-show-cycle
 slice-aggregate-show-cycle c = simp length-take (omega arith)
@@ -32,8 +32,8 @@ show-equal-spec =
     (tie.spec
     slice-aggregate-set-equal
     set-equal-requires
-    mul-list
-    array-share-prefix-list
+    mul-reads
+    array-share-prefix-reads
     slice-aggregate-show-cycle
     show-cycle-requires
     returns)

@@ -20,14 +20,14 @@ slice-aggregate-set-read c = search needs
 set-read-requires : tie.Need-set-read-requires
 set-read-requires c κs = search needs
 
-add-list : tie.Need-add-list
-add-list c = search needs
+add-reads : tie.Need-add-reads
+add-reads c = search needs
 
-mul-list : tie.Need-mul-list
-mul-list c = search needs
+mul-reads : tie.Need-mul-reads
+mul-reads c = search needs
 
-array-share-prefix-list : tie.Need-array-share-prefix-list
-array-share-prefix-list c = search needs
+array-share-prefix-reads : tie.Need-array-share-prefix-reads
+array-share-prefix-reads c = search needs
 
 slice-aggregate-show-cycle : tie.Need-slice-aggregate-show-cycle
 slice-aggregate-show-cycle c = simp length-take (omega arith)
@@ -47,9 +47,9 @@ show-mixed-spec =
     set-mixed-requires
     slice-aggregate-set-read
     set-read-requires
-    add-list
-    mul-list
-    array-share-prefix-list
+    add-reads
+    mul-reads
+    array-share-prefix-reads
     slice-aggregate-show-cycle
     show-cycle-requires
     returns)

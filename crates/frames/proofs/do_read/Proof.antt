@@ -1,7 +1,7 @@
--- `frames::read` meets its contract: the cycle on the memory's part of the store, and its packets said from the buffer that it has filled.
-use mathlib.Core.Path.{_≡_, sym}
+-- `frames::do_read` meets its contract: the cycle on the memory's part of the store, and its packets said from the buffer that it has filled.
+use mathlib.Core.Path.{_≡_, sym, ap, _∙_}
 use mathlib.Core.List.{List, _∷_}
-use Prim.Native.Nat.{ℕ, _+_, _-_, _*_, _≤_}
+use Prim.Native.Nat.{ℕ, _+_, _-_, _*_, _/_, _≤_}
 use native.Mathlib.Omega.{arith}
 use borrow.Author.Needs.{needs}
 use borrow.Rule.Slice.PartMut.{putMid, same-len-mid}
@@ -11,15 +11,13 @@ use denote.Ref.{now}
 use Rattle.cells.specs.Xor.{zeros}
 use Rattle.cycle.specs.Reads.{readCount}
 use Rattle.memory.specs.declared.State.{State}
-use Rattle.frames.specs.Frames.{answerTo, said}
+use Rattle.frames.specs.Frames.{mostFrame, answerByte, said}
 use Rattle.frames.specs.Session.{mostStore, cycleOf}
-use Rattle.frames.specs.Parts.{lentSize}
 use Rattle.frames.proofs.Fitting.{fits-cycle}
-use Rattle.frames.proofs.Lesser.{lesser-within}
 use Rattle.frames.proofs.Done.{fresh, running, same-store}
 use Rattle.frames.proofs.Cycles.{front-zeros, part-zeros, part-back, cycles}
-use Rattle.frames.proofs.read.Statement.{statement}
-use Rattle.frames.proofs.read.Tie as tie
+use Rattle.frames.proofs.do_read.Statement.{statement}
+use Rattle.frames.proofs.do_read.Tie as tie
 
 -- the function's entry and the memory, from where the size of the packets is known
 abbrev St : tie.After-packets-size → tie.Start
@@ -30,10 +28,10 @@ Memory c = c .before .before .session .given .0 .0
 
 -- the buffer has room for them, and the store has the part that is lent
 room : (c : tie.After-packets-size) → c .packets-size .result ≤ mostStore
-room c = lesser-within _ (readCount (now (St c .args .reads)) * Memory c .shape .p) mostStore (c .packets-size .ensures)
+room c = omega (arith, c .packets-size .ensures)
 
 part : (c : tie.After-lent-size) → c .lent-size .result ≤ length (now (St (c .before) .args .store))
-part c = let h = lesser-within _ (lentSize (Memory (c .before) .shape)) mostStore (c .lent-size .ensures) in omega arith
+part c = omega (arith, c .lent-size .ensures, St (c .before) .pre .1)
 
 -- the same place, and the packets, from where the buffer is back with them
 abbrev Sized : tie.After-bytes2 → tie.After-packets-size
@@ -48,10 +46,12 @@ as-long c = same-len-mid 2 (2 + Sized c .packets-size .result - 2) (zeros (2 + m
 
 spoken : (c : tie.After-say)
     → let b = c .before .before .before in
-    take (c .say .result) (c .say .last .1 .1 .0) ≡ answerTo 4 ∷ said (Packets b) (b .before .read-cycle .result .answer)
+    take (c .say .result) (c .say .last .1 .1 .0) ≡ answerByte 4 ∷ said (Packets b) (b .before .read-cycle .result .answer)
 spoken c =
     let b = c .before .before .before in
-    rw (part-back mostStore (Sized b .packets-size .result) (Packets b) (room (Sized b)) (b .bytes2 .given)) at (c .say .ensures .1)
+    c .say .ensures .1
+    ∙ ap (λ (packets : List ℕ). answerByte 4 ∷ said packets (b .before .read-cycle .result .answer))
+    (part-back mostStore (Sized b .packets-size .result) (Packets b) (room (Sized b)) (b .bytes2 .given))
 
 enum-known-session : tie.Need-enum-known-session
 enum-known-session c = search needs
@@ -112,11 +112,11 @@ say-requires c κs =
 array-share-prefix-bytes : tie.Need-array-share-prefix-bytes
 array-share-prefix-bytes c = search needs
 
-slice-aggregate-put-line : tie.Need-slice-aggregate-put-line
-slice-aggregate-put-line c = sym (length-take-le _ _ (c .before .before .say .ensures .0))
+slice-aggregate-print-line : tie.Need-slice-aggregate-print-line
+slice-aggregate-print-line c = sym (length-take-le _ _ (c .before .before .say .ensures .0))
 
-put-line-requires : tie.Need-put-line-requires
-put-line-requires c κs =
+print-line-requires : tie.Need-print-line-requires
+print-line-requires c κs =
     let s = c .before .before .before .say in
     omega (arith, length-take-le (s .result) (s .last .1 .1 .0) (s .ensures .0))
 
@@ -128,14 +128,14 @@ returns-2 c =
     let z = l .before in
     let a = St z .args in
     let said = cycles (now (a .store)) (now (a .reads)) (Memory z) _ _ (St z .pre .1) (l .lent-size .ensures) (z .packets-size .ensures) _ _ _ _
-    (part-zeros mostStore (z .packets-size .result) (room z)) (front-zeros 1364 (readCount (now (a .reads)) * 2) (omega (arith, St z .pre .0)))
+    (part-zeros mostStore (z .packets-size .result) (room z)) (front-zeros (mostFrame / 3 * 2) (readCount (now (a .reads)) * 2) (omega (arith, St z .pre .0)))
     (r .read-cycle .ensures .0) (r .read-cycle .ensures .1 .0) in
     running (a .session) (now (a .store)) 4 (cycleOf (now (a .reads))) _ (r .read-cycle .result) _ (now (a .out)) _ _ (z .before .before .session .given .1)
     (rw (r .read-cycle .ensures .0))
-    (same-store (Memory z) (now (a .store))) (rw (spoken s, said) at (c .before .put-line .ensures))
+    (same-store (Memory z) (now (a .store))) (rw (spoken s, said) at (c .before .print-line .ensures))
 
-pub read-spec : {M : Type 1} → statement M
-read-spec =
+pub do-read-spec : {M : Type 1} → statement M
+do-read-spec =
     tie.close
     (tie.spec
     enum-known-session
@@ -156,6 +156,6 @@ read-spec =
     slice-aggregate-say
     say-requires
     array-share-prefix-bytes
-    slice-aggregate-put-line
-    put-line-requires
+    slice-aggregate-print-line
+    print-line-requires
     returns-2)

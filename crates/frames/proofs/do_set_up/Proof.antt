@@ -1,4 +1,4 @@
--- `frames::set_up` meets its contract: by its verdict.
+-- `frames::do_set_up` meets its contract: by its verdict.
 use mathlib.Core.Path.{_≡_, refl, sym, _∙_}
 use Prim.Native.Nat.{_*_, _<_}
 use native.Mathlib.Omega.{arith}
@@ -8,9 +8,9 @@ use Rattle.refusals.specs.declared.Verdict.the-variants.{Accepted, Refused}
 use Rattle.layout.specs.Shape.{InRange}
 use Rattle.frames.specs.Session.{setUpRefusal}
 use Rattle.frames.proofs.Fitting.{set-up-near, near-place, set-up-range, few-in-all, small-limit}
-use Rattle.frames.proofs.Done.{by-verdict}
-use Rattle.frames.proofs.set_up.Statement.{statement}
-use Rattle.frames.proofs.set_up.Tie as tie
+use Rattle.frames.proofs.Done.{same-verdict}
+use Rattle.frames.proofs.do_set_up.Statement.{statement}
+use Rattle.frames.proofs.do_set_up.Tie as tie
 
 -- what the verdict is, refused and accepted
 refused : (c : tie.After-verdict) → setUpRefusal (c .before .before .before .before .args .shape) ≡ Refused (c .verdict .given .0 .0) (c .verdict .given .0 .1 .0)
@@ -39,7 +39,7 @@ returns : tie.Need-returns
 returns c =
     let v = c .before .before .before in
     let a = v .before .before .before .before .args in
-    by-verdict _ _ (a .session) (now (a .store)) _ _ (sym (refused v)) (c .refuse .ensures (now (a .store)))
+    same-verdict _ _ (a .session) (now (a .store)) _ _ (sym (refused v)) (c .refuse .ensures (now (a .store)))
 
 enum-told : tie.Need-enum-told
 enum-told c = search needs
@@ -59,11 +59,11 @@ cast-t18 c = record { fits = in-all (c .before .before) }
 cast-t19 : tie.Need-cast-t19
 cast-t19 c = record { fits = rw (c .before .before .before .group-of .ensures) (small-limit _ (range (c .before .before .before .before) .symbols)) }
 
-slice-aggregate-put-line : tie.Need-slice-aggregate-put-line
-slice-aggregate-put-line c = search needs
+slice-aggregate-print-line : tie.Need-slice-aggregate-print-line
+slice-aggregate-print-line c = search needs
 
-put-line-requires : tie.Need-put-line-requires
-put-line-requires c κs = search needs
+print-line-requires : tie.Need-print-line-requires
+print-line-requires c κs = search needs
 
 set-up-requires : tie.Need-set-up-requires
 set-up-requires c κs = search needs
@@ -78,11 +78,11 @@ returns-2 c =
     let d = g .before .before .before in
     let a = d .before .before .before .before .before .before .args in
     rw (d .clear .ensures)
-    (by-verdict _ _ (a .session) (now (a .store)) _ _ (sym (accepted (d .before .before)))
-    (record { session = rw (c .before .set-up .ensures); store = refl; line = rw (g .group-of .ensures) at (p .put-line .ensures) }))
+    (same-verdict _ _ (a .session) (now (a .store)) _ _ (sym (accepted (d .before .before)))
+    (record { session = rw (c .before .set-up .ensures); store = refl; line = rw (g .group-of .ensures) at (p .print-line .ensures) }))
 
-pub set-up-spec : {M : Type 1} → statement M
-set-up-spec =
+pub do-set-up-spec : {M : Type 1} → statement M
+do-set-up-spec =
     tie.close
     (tie.spec
     judge-set-up-requires
@@ -95,8 +95,8 @@ set-up-spec =
     mul-t17
     cast-t18
     cast-t19
-    slice-aggregate-put-line
-    put-line-requires
+    slice-aggregate-print-line
+    print-line-requires
     set-up-requires
     same-length
     returns-2)

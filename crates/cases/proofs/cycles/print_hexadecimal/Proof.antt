@@ -1,10 +1,10 @@
--- `cases::cycles::hexadecimal` stays within the slice and ends.
+-- `cases::cycles::print_hexadecimal` stays within the slice and ends.
 use Prim.Native.Nat.{_-_, _≤_}
 use native.Mathlib.Omega.{arith}
 use borrow.Author.Needs.{needs}
 use lib.ListN.{length}
-use Rattle.cases.proofs.cycles.hexadecimal.Statement.{statement}
-use Rattle.cases.proofs.cycles.hexadecimal.Tie as tie
+use Rattle.cases.proofs.cycles.print_hexadecimal.Statement.{statement}
+use Rattle.cases.proofs.cycles.print_hexadecimal.Tie as tie
 
 abbrev Inv-loop : tie.InvT-loop
 Inv-loop bytes i₀ t3 i-end i = i ≤ length bytes
@@ -33,17 +33,17 @@ loop-less c = search needs
 loop-again : tie.Need-loop-again Inv-loop μ-loop
 loop-again c = search needs
 
-slice-aggregate-text : tie.Need-slice-aggregate-text Inv-loop μ-loop
-slice-aggregate-text c = search needs
+slice-aggregate-print-text : tie.Need-slice-aggregate-print-text Inv-loop μ-loop
+slice-aggregate-print-text c = search needs
 
-text-requires : tie.Need-text-requires Inv-loop μ-loop
-text-requires c κs = search needs
+print-text-requires : tie.Need-print-text-requires Inv-loop μ-loop
+print-text-requires c κs = search needs
 
 returns : tie.Need-returns Inv-loop μ-loop
 returns c = search needs
 
-pub hexadecimal-spec : {M : Type 1} → statement M
-hexadecimal-spec =
+pub print-hexadecimal-spec : {M : Type 1} → statement M
+print-hexadecimal-spec =
     tie.close
     (tie.spec
     Inv-loop
@@ -55,6 +55,6 @@ hexadecimal-spec =
     add-i
     loop-less
     loop-again
-    slice-aggregate-text
-    text-requires
+    slice-aggregate-print-text
+    print-text-requires
     returns)

@@ -1,4 +1,4 @@
--- `frames::write` meets its contract.
+-- `frames::do_write` meets its contract.
 use mathlib.Core.Path.{sym, _∙_}
 use Prim.Native.Nat.{_≤_}
 use native.Mathlib.Omega.{arith}
@@ -7,20 +7,13 @@ use lib.ListN.{length}
 use lib.Seq.{length-take-le}
 use denote.Ref.{now}
 use Rattle.memory.specs.History.{write}
-use Rattle.frames.specs.Session.{mostStore}
-use Rattle.frames.specs.Parts.{lentSize}
-use Rattle.frames.proofs.Lesser.{lesser-within}
 use Rattle.frames.proofs.Done.{fresh, running, writes}
 use Rattle.frames.proofs.Fitting.{fits-write}
-use Rattle.frames.proofs.write.Statement.{statement}
-use Rattle.frames.proofs.write.Tie as tie
+use Rattle.frames.proofs.do_write.Statement.{statement}
+use Rattle.frames.proofs.do_write.Tie as tie
 
 within : (c : tie.After-lent-size) → c .lent-size .result ≤ length (now (c .before .before .before .before .before .before .args .store))
-within c =
-    let s = c .before .before in
-    let d = s .before .before .before .before in
-    let h = lesser-within _ (lentSize (s .session .given .0 .0 .shape)) mostStore (c .lent-size .ensures) in
-    omega (arith, d .pre)
+within c = omega (arith, c .lent-size .ensures, c .before .before .before .before .before .before .pre)
 
 enum-known-session : tie.Need-enum-known-session
 enum-known-session c = search needs
@@ -48,8 +41,8 @@ slice-aggregate-write c = sym (length-take-le _ _ (within (c .before)))
 write-requires : tie.Need-write-requires
 write-requires c κs = search needs
 
-put-answer-requires : tie.Need-put-answer-requires
-put-answer-requires c κs = rw (c .before .before .before .write .ensures .0) (fits-write _ _ _ _)
+print-answer-requires : tie.Need-print-answer-requires
+print-answer-requires c κs = rw (c .before .before .before .write .ensures .0) (fits-write _ _ _ _)
 
 same-length : tie.Need-same-length
 same-length c = search needs
@@ -65,10 +58,10 @@ returns-2 c =
     let same = writes (s .session .given .0 .0) (now (a .store)) (l .lent-size .result) (a .row) (now (a .packets)) (d .pre) (l .lent-size .ensures) in
     let did = w .write .ensures .0 ∙ same .0 in
     running (a .session) (now (a .store)) 2 (λ sh. write (a .row) (now (a .packets))) _ (w .write .result) _ (now (a .out)) _ _ (s .session .given .1) (rw did)
-    (rw (w .write .ensures .1) (same .1)) (rw did at (p .put-answer .ensures))
+    (rw (w .write .ensures .1) (same .1)) (rw did at (p .print-answer .ensures))
 
-pub write-spec : {M : Type 1} → statement M
-write-spec =
+pub do-write-spec : {M : Type 1} → statement M
+do-write-spec =
     tie.close
     (tie.spec
     enum-known-session
@@ -79,6 +72,6 @@ write-spec =
     slice-relend-prefix-write
     slice-aggregate-write
     write-requires
-    put-answer-requires
+    print-answer-requires
     same-length
     returns-2)

@@ -1,9 +1,9 @@
--- `frames::put_line` meets its contract: the digits, and a line feed behind them.
+-- `frames::print_line` meets its contract: the digits, and a line feed behind them.
 use mathlib.Core.Path.{sym}
 use borrow.Author.Needs.{needs}
 use Rattle.frames.proofs.Printing.{length-printed, put-printed}
-use Rattle.frames.proofs.put_line.Statement.{statement}
-use Rattle.frames.proofs.put_line.Tie as tie
+use Rattle.frames.proofs.print_line.Statement.{statement}
+use Rattle.frames.proofs.print_line.Tie as tie
 
 encode-requires : tie.Need-encode-requires
 encode-requires c κs = search needs
@@ -22,11 +22,11 @@ same-length c = search needs
 
 returns : tie.Need-returns
 returns c = record {
-  line = sym (length-printed _);
+  len = sym (length-printed _);
   room = rw length-printed (search needs);
   output = put-printed _ _ _ (c .before .before .encode .ensures);
 }
 
-pub put-line-spec : {M : Type 1} → statement M
-put-line-spec =
+pub print-line-spec : {M : Type 1} → statement M
+print-line-spec =
     tie.close (tie.spec encode-requires mul-end slice-write-out add-result same-length returns)

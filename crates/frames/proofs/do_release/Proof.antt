@@ -1,11 +1,11 @@
--- `frames::release` meets its contract.
+-- `frames::do_release` meets its contract.
 use borrow.Author.Needs.{needs}
 use denote.Ref.{now}
 use Rattle.memory.specs.History.{release}
 use Rattle.frames.proofs.Done.{fresh, running, same-store}
 use Rattle.frames.proofs.Fitting.{fits-release}
-use Rattle.frames.proofs.release.Statement.{statement}
-use Rattle.frames.proofs.release.Tie as tie
+use Rattle.frames.proofs.do_release.Statement.{statement}
+use Rattle.frames.proofs.do_release.Tie as tie
 
 enum-known-session : tie.Need-enum-known-session
 enum-known-session c = search needs
@@ -24,8 +24,8 @@ returns c s =
 release-requires : tie.Need-release-requires
 release-requires c κs = search needs
 
-put-answer-requires : tie.Need-put-answer-requires
-put-answer-requires c κs = rw (c .before .release .ensures) (fits-release _ _)
+print-answer-requires : tie.Need-print-answer-requires
+print-answer-requires c κs = rw (c .before .release .ensures) (fits-release _ _)
 
 returns-2 : tie.Need-returns-2
 returns-2 c s =
@@ -34,7 +34,7 @@ returns-2 c s =
     let k = r .before in
     let a = k .before .before .before .args in
     running (a .session) s 3 (λ sh. release (a .row)) _ (r .release .result) s (now (a .out)) _ _ (k .before .session .given .1) (rw (r .release .ensures))
-    (same-store (k .before .session .given .0 .0) s) (rw (r .release .ensures) at (p .put-answer .ensures))
+    (same-store (k .before .session .given .0 .0) s) (rw (r .release .ensures) at (p .print-answer .ensures))
 
-pub release-spec : {M : Type 1} → statement M
-release-spec = tie.close (tie.spec enum-known-session enum-told refuse-requires returns release-requires put-answer-requires returns-2)
+pub do-release-spec : {M : Type 1} → statement M
+do-release-spec = tie.close (tie.spec enum-known-session enum-told refuse-requires returns release-requires print-answer-requires returns-2)
