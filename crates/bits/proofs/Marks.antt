@@ -1,10 +1,11 @@
--- Laws of marks: one toggled, the others left alone, none from a number on, and how many they are.
+-- Laws of marks: one toggled, the others left alone, none from a number on, and how many they are; and of how many numbers pass any test.
 use mathlib.Core.Path.{_≡_, refl, sym, ap, ap₂, _∙_}
 use mathlib.Core.Logic.{_≢_, ⊎-elim}
-use mathlib.Core.Bool.{Bool, true, false, not, cond}
+use mathlib.Core.Bool.{Bool, true, false, not, cond, false≢true}
 use Prim.Native.Nat.{ℕ, zero, suc, _+_, _-_, _*_, _/_, _%_, _^_, _≤_, _<_}
-use native.Mathlib.Nat.{div-eq-of-lt, one-mul, eq-or-lt-of-le, le-of-suc-le-suc, mod-lt, mod-eq-of-lt, mod-one, add-zero, zero-add}
+use native.Mathlib.Nat.{le-refl, div-eq-of-lt, one-mul, eq-or-lt-of-le, le-of-suc-le-suc, mod-lt, mod-eq-of-lt, mod-one, add-zero, zero-add}
 use native.Mathlib.Omega.{arith}
+use native.Mathlib.Decide.{le-ind}
 use borrow.Author.Tests.{eq-eqb, eqb-true, eqb-false}
 use lib.Arith.{bin-ind}
 use lib.Bits.{bitXor, xor-shr, xor-zero-r}
@@ -81,6 +82,27 @@ many-most test (suc n) = omega (arith, many-most test n, one-most (test n))
 pub none-passed : (test : ℕ → Bool) (n : ℕ) → ((i : ℕ) → i < n → test i ≡ false) → howMany test n ≡ 0
 none-passed test zero h = refl
 none-passed test (suc n) h = rw (none-passed test n (λ i l. h i (omega arith)), h n (omega arith))
+
+pub all-pass : (n : ℕ) → howMany (λ (_ : ℕ). true) n ≡ n
+all-pass zero = refl
+all-pass (suc n) = omega (arith, all-pass n)
+
+-- where the test f passes, g does
+module _ (f g : ℕ → Bool) (more : (j : ℕ) → f j ≡ true → g j ≡ true) where
+  one-le : (x y : Bool) → (x ≡ true → y ≡ true) → cond {A = ℕ} x 1 0 ≤ cond y 1 0
+  one-le true true h = le-refl 1
+  one-le true false h = absurd (false≢true (h refl))
+  one-le false true h = omega arith
+  one-le false false h = le-refl 0
+
+  many-le : (n : ℕ) → howMany f n ≤ howMany g n
+  many-le zero = le-refl 0
+  many-le (suc n) = omega (arith, many-le n, one-le (f n) (g n) (more n))
+
+  pub many-less : (i n : ℕ) → f i ≡ false → g i ≡ true → i < n → howMany f n < howMany g n
+  many-less i n e d =
+      le-ind (λ (m : ℕ). howMany f m < howMany g m) (rw (e, d) (omega (arith, many-le i)))
+      (λ m h ih. omega (arith, ih, one-le (f m) (g m) (more m))) n
 
 -- counting further finds no more where nothing passes from n on
 pub none-more : (test : ℕ → Bool) (n w : ℕ) → n ≤ w → ((i : ℕ) → n ≤ i → test i ≡ false) → howMany test w ≡ howMany test n

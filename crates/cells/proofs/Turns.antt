@@ -50,10 +50,11 @@ not-yet s at t i l from n h k e out =
     ap (λ (r : List ℕ). getD r (from + i) 0) e
     ∙ getD-put-out s at (take i t) (from + i) (⊎-elim (λ o. inl (omega arith)) (λ o. inr (omega arith)) out)
 
--- one turn of a loop that clears: the bytes before i are 0
-pub zero-next : (l : List ℕ) (i : ℕ) → i < length l → ((j : ℕ) → j < i → getD l j 0 ≡ 0) → (j : ℕ) → j < i + 1 → getD (set l i 0) j 0 ≡ 0
-zero-next l i h before j b =
+-- one turn of a loop that fills a list from the front with f 0, f 1, ..: one entry more
+pub set-more : (xs : List ℕ) (i x : ℕ) (f : ℕ → ℕ) → i < length xs → x ≡ f i → ((j : ℕ) → j < i → getD xs j 0 ≡ f j)
+    → (j : ℕ) → j < i + 1 → getD (set xs i x) j 0 ≡ f j
+set-more xs i x f h e g j l =
     ⊎-elim
-    (λ (same : j ≡ i). rw same (getD-set-same l i 0 0 h))
-    (λ (less : j < i). getD-set-other l i j 0 0 (omega arith) ∙ before j less)
+    (λ (q : j ≡ i). rw q (getD-set-same xs i x 0 h ∙ e))
+    (λ (m : j < i). getD-set-other xs i j x 0 (λ q. omega arith) ∙ g j m)
     (eq-or-lt-of-le (omega arith))

@@ -9,7 +9,7 @@ use lib.Dec.{eqb}
 use lib.ListN.{length}
 use Rattle.refusals.specs.declared.Verdict.the-variants.{Accepted}
 use Rattle.refusals.specs.Verdict.{firstRefusal}
-use Rattle.refusals.proofs.Verdicts.{checks, all-accepted, accepted-all, first-same, both}
+use Rattle.refusals.proofs.Verdicts.{checks, first-accepted, all-accepted, accepted-all, first-same, both}
 use Rattle.simplex.specs.Shape.{mostPairs}
 use Rattle.simplex.specs.Limit.{total}
 use Rattle.simplex.proofs.Tables.{limit-most}
@@ -45,7 +45,7 @@ module _ (sh : Shape) (full : ℕ → Bool) (reads : List ℕ) where
     read-accepted = all-accepted (readRefusal sh full reads) (readCount reads) e n l
 
     pub accepted-named : (row reads n < sh .g) × (group reads n < sh .m) × (symbol reads n < sh .k)
-    accepted-named = let a = read-accepted in search (checks, ltb-true)
+    accepted-named = form-named sh reads n (first-accepted _ _ read-accepted)
 
     accepted-full : full (row reads n) ≡ true
     accepted-full = let a = read-accepted in search checks

@@ -90,9 +90,9 @@ read-many reads x (suc n) small =
     (read-many reads x n (λ m l. small m (omega arith)))
   where
     one : (t : Bool) (r : List ℕ) (f : ℕ → ℕ) (s : ℕ) → s < mostSymbols → length r ≡ total (listOf f 0 mostSymbols)
-        → length (cond t (r ++ (s ∷ [])) r) ≡ total (listOf (λ i. f i + cond (t && eqb s i) 1 0) 0 mostSymbols)
+        → length (r ++ cond t (s ∷ []) []) ≡ total (listOf (λ i. f i + cond (t && eqb s i) 1 0) 0 mostSymbols)
     one true r f s l e = rw (length-append r (s ∷ []), more-one f s 0 mostSymbols (omega arith) (omega arith)) (omega arith)
-    one false r f s l e = e ∙ omega arith
+    one false r f s l e = rw (length-append r []) (omega arith)
 
 pub reads-many : (reads : List ℕ) (x : ℕ) → ((n : ℕ) → n < readCount reads → symbol reads n < mostSymbols)
     → length (readsIn reads x) ≡ total (countsOf reads x)
@@ -119,9 +119,9 @@ unfolding symbolsRead
 group-many reads x zero = refl
 group-many reads x (suc n) = one (eqb (group reads n) x) (symbolsRead reads x n) (symbol reads n) (group-many reads x n)
   where
-    one : (t : Bool) (r : List ℕ) (s : ℕ) {c : ℕ} → length r ≡ c → length (cond t (r ++ (s ∷ [])) r) ≡ c + cond t 1 0
+    one : (t : Bool) (r : List ℕ) (s : ℕ) {c : ℕ} → length r ≡ c → length (r ++ cond t (s ∷ []) []) ≡ c + cond t 1 0
     one true r s e = rw (length-append r (s ∷ [])) (omega arith)
-    one false r s e = omega arith
+    one false r s e = rw (length-append r []) (omega arith)
 
 pub reads-most : (reads : List ℕ) (m most : ℕ) → ((n : ℕ) → n < readCount reads → (group reads n < m) × (symbol reads n < mostSymbols))
     → ((x : ℕ) → x < m → total (countsOf reads x) ≤ most) → readCount reads ≤ m * most

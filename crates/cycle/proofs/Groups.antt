@@ -2,9 +2,8 @@
 use mathlib.Core.Path.{_≡_, refl, sym, ap, _∙_}
 use mathlib.Core.Logic.{_≢_}
 use mathlib.Core.Bool.{Bool, true, false}
-use mathlib.Core.List.{List}
+use mathlib.Core.List.{List, []}
 use Prim.Native.Nat.{ℕ, _+_, _-_, _*_, _/_, _%_, _≤_, _<_}
-use native.Mathlib.Nat.{zero-add}
 use native.Mathlib.Omega.{arith}
 use borrow.Author.Tests.{ltb-true, ltb-false, ne-eqb}
 use lib.Dec.{leb, ltb}
@@ -12,7 +11,7 @@ use lib.ListN.{length, getD, replicate}
 use Rattle.bits.proofs.Marks.{none-passed}
 use Rattle.refusals.specs.declared.Verdict.{Verdict}
 use Rattle.refusals.specs.declared.Verdict.the-variants.{Accepted, Refused}
-use Rattle.refusals.specs.Verdict.{check, firstRefusal}
+use Rattle.refusals.specs.Verdict.{check, ifRefused, firstRefusal}
 use Rattle.refusals.proofs.Verdicts.{check-passed, check-refused}
 use Rattle.cells.specs.Cell.{put, putEach}
 use Rattle.cells.proofs.Cells.{getD-cell}
@@ -22,11 +21,10 @@ use Rattle.simplex.specs.Limit.{total}
 use Rattle.audit.specs.Plan.{Pair, start, pairAt}
 use Rattle.audit.proofs.Places.{place-most}
 use Rattle.audit.proofs.Answer.{accepted}
-use Rattle.table.specs.Grouped.{listOf}
-use Rattle.table.proofs.Grouped.{length-of, of-at}
 use Rattle.plan.specs.declared.Planned.{Planned}
 use Rattle.plan.specs.Finding.{planOf}
-use Rattle.plan.specs.Planned.{planRefusal, stored, pairsIf, planAnswer}
+use Rattle.plan.specs.Planned.{planRefusal, column, stored, planAnswer}
+use Rattle.plan.proofs.Storing.{in-column}
 use Rattle.layout.specs.declared.Shape.{Shape}
 use Rattle.layout.specs.Shape.{mostGroups, InRange}
 use Rattle.cycle.specs.declared.Plans.{Plans}
@@ -40,38 +38,35 @@ use Rattle.cycle.proofs.Accepted.{accepted-few, few-pairs}
 -- ---- the arrays
 
 module _ (sh : Shape) (reads : List ℕ) (f : Pair → ℕ) where
-  abbrev own : ℕ → ℕ → ℕ
-  own x j = f (pairAt (planOf (sh .k) (countsOf reads x)) j)
-
   abbrev part : ℕ → List ℕ
-  part x = listOf (own x) 0 mostPairs
+  part x = column f (planOf (sh .k) (countsOf reads x))
 
-  abbrev zeros : List ℕ
-  zeros = replicate (mostGroups * mostPairs) 0
+  abbrev none : List ℕ
+  none = replicate (mostGroups * mostPairs) 0
 
   -- one bank of each pair of the first x groups
   pub columns : ℕ → List ℕ
-  columns x = putEach mostPairs part x zeros
+  columns x = putEach mostPairs part x none
 
-  pub columns-none : zeros ≡ columns 0
+  pub columns-none : none ≡ columns 0
   unfolding columns
-  columns-none = each-none mostPairs part zeros
+  columns-none = each-none mostPairs part none
 
   pub columns-size : (x : ℕ) → length (columns x) ≡ mostGroups * mostPairs
   unfolding columns
-  columns-size x = length-each mostPairs part x zeros
+  columns-size x = length-each mostPairs part x none
 
   pub columns-more : (x : ℕ) (array : List ℕ) → array ≡ columns x
       → put array (x * mostPairs) (part x) ≡ columns (x + 1)
   unfolding columns
-  columns-more x array e = each-more mostPairs part x zeros array (x * mostPairs) (part x) e refl refl
+  columns-more x array e = each-more mostPairs part x none array (x * mostPairs) (part x) e refl refl
 
-  columns-at : (n x j : ℕ) → n ≤ mostGroups → x < n → j < mostPairs → getD (columns n) (x * mostPairs + j) 0 ≡ own x j
+  columns-at : (n x j : ℕ) → n ≤ mostGroups → x < n → j < mostPairs → getD (columns n) (x * mostPairs + j) 0 ≡ f (pairAt (planOf (sh .k) (countsOf reads x)) j)
   unfolding columns
   columns-at n x j most hx hj =
       sym (getD-cell (columns n) (x * mostPairs) mostPairs j hj)
-      ∙ ap (λ (l : List ℕ). getD l j 0) (cell-each mostPairs part n zeros (λ y _. length-of (own y) 0 mostPairs) (omega arith) x hx)
-      ∙ of-at (own x) 0 mostPairs j 0 hj ∙ ap (own x) (zero-add j)
+      ∙ ap (λ (l : List ℕ). getD l j 0) (cell-each mostPairs part n none (λ y _. refl) (omega arith) x hx)
+      ∙ in-column f (planOf (sh .k) (countsOf reads x)) j hj
 
 -- a group that no read names
 count-none : (reads : List ℕ) (x i n : ℕ) → ((j : ℕ) → j < n → group reads j ≢ x) → countOf reads x i n ≡ 0
@@ -104,7 +99,7 @@ module _ (sh : Shape) (reads : List ℕ) (range : InRange sh) (named : Named sh 
       unfolding planAnswer
       group-plan =
           ap (λ (p : Planned). p .plan) answer
-          ∙ ap (λ (v : Verdict). stored (pairsIf v (planOf (sh .k) (countsOf reads x)))) (sym (ap (λ (p : Planned). p .verdict) answer) ∙ e)
+          ∙ ap (λ (v : Verdict). stored (ifRefused [] (planOf (sh .k) (countsOf reads x)) v)) (sym (ap (λ (p : Planned). p .verdict) answer) ∙ e)
 
   -- ---- no group is refused
 

@@ -10,10 +10,8 @@ use Rattle.cells.specs.Xor.{xorBytes, zeros}
 use Rattle.cells.proofs.Turns.{length-xor-cell}
 use Rattle.cells.proofs.Cells.{getD-cell}
 use Rattle.cells.proofs.Each.{cell-each}
-use Rattle.simplex.specs.Code.{Yields}
 use Rattle.simplex.specs.Limit.{In}
 use Rattle.audit.specs.Plan.{Pair, opens, opened, Serves}
-use Rattle.audit.proofs.Served.{opened-yields}
 use Rattle.layout.specs.declared.Shape.{Shape}
 use Rattle.layout.specs.Shape.{InRange, banks, storeSize, offset, cellAt}
 use Rattle.cycle.specs.Reads.{readCount, row, group, symbol}
@@ -82,6 +80,4 @@ module _ (sh : Shape) (in-range : InRange sh) (s reads : List ℕ) (size : lengt
           record {
             pair = subst (λ (p : Pair). Serves (sh .k) (symbol reads n) p) same (serves n l);
             packet = packet-is out packets n l ∙ ap (λ (p : Pair). xorOfCells sh s (group reads n) (row reads n) (opened p)) same;
-            yields = subst (λ (p : Pair). Yields (sh .k) (sh .p) (opened p) (symbol reads n)) same
-                (opened-yields (sh .k) (sh .p) (symbol reads n) (pairOf (sh .k) reads n) (serves n l));
           }

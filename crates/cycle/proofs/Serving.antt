@@ -83,10 +83,10 @@ module _ (sh : Shape) (s : List ℕ) (size : length s ≡ storeSize sh) (x r : �
 -- ---- one turn
 
 -- for each symbol of each group, where its next pair stands once n reads are served
-abbrev pub Next : List ℕ → ℕ → List ℕ → Type 0
-Next reads n next = Grid (λ x i. x * mostPairs + start (countsOf reads x) i + countOf reads x i n) next
+abbrev pub NextPairs : List ℕ → ℕ → List ℕ → Type 0
+NextPairs reads n next = Grid (λ x i. x * mostPairs + start (countsOf reads x) i + countOf reads x i n) next
 
-pub none-served : (sh : Shape) (reads : List ℕ) (plans : Plans) → PlansFor sh reads plans → Next reads 0 (plans .next)
+pub none-served : (sh : Shape) (reads : List ℕ) (plans : Plans) → PlansFor sh reads plans → NextPairs reads 0 (plans .next)
 none-served sh reads plans planned = record { size = planned .starts .size; each = λ x i g s. planned .starts .each x i g s ∙ sym (add-zero _) }
 
 -- read n, of group x and row r, takes the pair that stands at j, which is what entry e of `next` says
@@ -100,10 +100,10 @@ pub record Turn (sh : Shape) (reads : List ℕ) (plans : Plans) (next : List ℕ
   pub second-to : getD (plans .second) j 0 ≤ banks sh
   pub line : _≡_ {A = List ℕ} (getD (plans .first) j 0 ∷ getD (plans .second) j 0 ∷ []) (lineOf (sh .k) reads n)
   pub packet : (s : List ℕ) → xorOfCells sh s x r (opens (getD (plans .first) j 0) (getD (plans .second) j 0)) ≡ packetOf sh s reads n
-  pub after : Next reads (n + 1) (set next e (j + 1))
+  pub after : NextPairs reads (n + 1) (set next e (j + 1))
 
 module _ (sh : Shape) (reads : List ℕ) (plans : Plans) (range : InRange sh) (named : Named sh reads) (few : Few sh reads)
-    (planned : PlansFor sh reads plans) (next : List ℕ) (n : ℕ) (l : n < readCount reads) (held : Next reads n next) where
+    (planned : PlansFor sh reads plans) (next : List ℕ) (n : ℕ) (l : n < readCount reads) (held : NextPairs reads n next) where
   abbrev E : ℕ
   E = group reads n * mostSymbols + symbol reads n
 

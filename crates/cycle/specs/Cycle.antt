@@ -51,9 +51,8 @@ listRefusal sh full reads out schedule =
 -- ---- what a cycle that is not refused puts out
 
 -- The pair of read n: the nth read for a symbol of a group gets that symbol's nth pair of the group's plan.
-unfoldable pub pairOf : ℕ → List ℕ → ℕ → Pair
-pairOf K reads n =
-    pairAt (planOf K (countsOf reads (group reads n))) (start (countsOf reads (group reads n)) (symbol reads n) + ordinal reads n)
+unfoldable pub pairOf : (K : ℕ) → (reads : List ℕ) → (n : ℕ) → Pair
+pairOf K reads n = let counts = countsOf reads (group reads n) in pairAt (planOf K counts) (start counts (symbol reads n) + ordinal reads n)
 
 -- The XOR of the cells of some banks of group x in row r.
 abbrev pub xorOfCells : Shape → List ℕ → (x r : ℕ) → Banks → Packet
@@ -64,7 +63,7 @@ unfoldable pub packetOf : Shape → (s reads : List ℕ) → ℕ → Packet
 packetOf sh s reads n = xorOfCells sh s (group reads n) (row reads n) (opened (pairOf (sh .k) reads n))
 
 -- Its line of the schedule: the two banks of its pair.
-abbrev pub lineOf : ℕ → List ℕ → ℕ → List ℕ
+abbrev pub lineOf : (K : ℕ) → (reads : List ℕ) → (n : ℕ) → List ℕ
 lineOf K reads n = pairOf K reads n .a ∷ pairOf K reads n .b ∷ []
 
 -- The packets go to the output in the order of the list, and the lines to the schedule.

@@ -44,7 +44,7 @@ countsOf reads x = listOf (λ i. countOf reads x i (readCount reads)) 0 mostSymb
 -- The symbols of the first n reads of group x, in their order.
 unfoldable pub symbolsRead : List ℕ → (x n : ℕ) → List ℕ
 symbolsRead reads x zero = []
-symbolsRead reads x (suc n) = cond (eqb (group reads n) x) (symbolsRead reads x n ++ (symbol reads n ∷ [])) (symbolsRead reads x n)
+symbolsRead reads x (suc n) = symbolsRead reads x n ++ cond (eqb (group reads n) x) (symbol reads n ∷ []) []
 
 -- The reads of group x, each by its symbol.
 abbrev pub readsIn : List ℕ → ℕ → List ℕ

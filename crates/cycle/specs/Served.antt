@@ -3,7 +3,6 @@ use mathlib.Core.Path.{_≡_}
 use mathlib.Core.List.{List}
 use Prim.Native.Nat.{ℕ, _*_, _<_}
 use Rattle.cells.specs.Cell.{cell}
-use Rattle.simplex.specs.Code.{Yields}
 use Rattle.simplex.specs.Limit.{In}
 use Rattle.audit.specs.declared.Audited.the-variants.{Yes}
 use Rattle.audit.specs.Plan.{Pair, opened, Serves}
@@ -19,11 +18,9 @@ line schedule n = pairIn schedule n
 
 -- pair: the line of read n is a pair (a, b) in its ranges with a > b and a XOR b = 2^i for its symbol i.
 -- packet: the output holds in its place the XOR of just those banks' cells in its own group and row.
--- yields: for every content, what the code puts into those banks XORs to packet i.
 pub record ServedRead (sh : Shape) (s reads out schedule : List ℕ) (n : ℕ) : Type 0 where
   pub pair : Serves (sh .k) (symbol reads n) (line schedule n)
   pub packet : cell out (n * sh .p) (sh .p) ≡ xorOfCells sh s (group reads n) (row reads n) (opened (line schedule n))
-  pub yields : Yields (sh .k) (sh .p) (opened (line schedule n)) (symbol reads n)
 
 -- The audit says yes to the plan of each group.
 abbrev pub PlansAudited : Shape → List ℕ → Type 0

@@ -22,7 +22,7 @@ use refusals::Verdict;
 use simplex::MOST_PAIRS;
 use simplex::MOST_SYMBOLS;
 
-// How many symbols all groups have at most, and how many pairs their plans.
+// The most symbols of all groups together, and the most pairs of their plans.
 const ALL_SYMBOLS: usize = MOST_GROUPS * MOST_SYMBOLS;
 
 const ALL_PAIRS: usize = MOST_GROUPS * MOST_PAIRS;
@@ -79,9 +79,9 @@ fn judge_reads(shape: Shape, full: u64, reads: &[u8]) -> Verdict
     requires { ⌜ InRange shape ⌝ }
     ensures { λ r. ⌜ r ≡ firstRefusal (readRefusal shape (marked full) (now (reads .entry))) (readCount (now (reads .entry))) ⌝ }
 {
-    let many = reads.len() / 3;
+    let count = reads.len() / 3;
     let mut n = 0;
-    while n < many {
+    while n < count {
         let verdict = judge_read(shape, full, reads, n);
         if let Verdict::Refused(number, place) = verdict {
             return Verdict::Refused(number, place);
@@ -97,9 +97,9 @@ fn count_reads(reads: &[u8]) -> [usize; ALL_SYMBOLS]
     ensures { λ r. ⌜ Grid (λ x i. countOf (now (reads .entry)) x i (readCount (now (reads .entry)))) r ⌝ }
 {
     let mut counts = [0; ALL_SYMBOLS];
-    let many = reads.len() / 3;
+    let count = reads.len() / 3;
     let mut n = 0;
-    while n < many {
+    while n < count {
         let e = field_of(reads, n, 1) * MOST_SYMBOLS + field_of(reads, n, 2);
         counts[e] = counts[e] + 1;
         n += 1;

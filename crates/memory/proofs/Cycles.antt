@@ -1,6 +1,5 @@
 -- Demand 3 holds of every read cycle; and what a served read returns where its row's cells are those of the code.
 use mathlib.Core.Path.{_≡_, refl, sym, ap, _∙_}
-use mathlib.Core.Bool.{true}
 use mathlib.Core.List.{List, []}
 use Prim.Native.Nat.{ℕ, zero, suc, _%_, _≤_, _<_}
 use native.Mathlib.Omega.{arith}
@@ -9,18 +8,18 @@ use lib.Dec.{eqb}
 use lib.ListN.{length, getD}
 use Rattle.refusals.specs.declared.Verdict.{Verdict}
 use Rattle.refusals.specs.declared.Verdict.the-variants.{Accepted, Refused}
-use Rattle.refusals.specs.Verdict.{check, ifRefused}
-use Rattle.refusals.proofs.Verdicts.{check-passed, first-accepted, next-accepted, never-check, never-then, skips, both}
+use Rattle.refusals.specs.Verdict.{ifRefused}
+use Rattle.refusals.proofs.Verdicts.{check-passed, never-check, never-then, skips, both}
 use Rattle.simplex.specs.Shape.{limitOf}
 use Rattle.simplex.specs.Limit.{total}
 use Rattle.simplex.specs.Code.{Packet, Sized, bankCell, xorOfBanks}
 use Rattle.simplex.proofs.Banks.{set-linear, cell-one}
 use Rattle.simplex.proofs.Limit.{limit-of-reads}
 use Rattle.audit.specs.Plan.{Pair, opens, opened, Serves}
-use Rattle.audit.proofs.Served.{opens-xor}
+use Rattle.audit.proofs.Served.{opens-xor, opened-yields}
 use Rattle.layout.specs.declared.Shape.{Shape}
 use Rattle.layout.specs.Shape.{banks, storeSize, cellAt}
-use Rattle.cycle.specs.Reads.{countsOf, readsIn}
+use Rattle.cycle.specs.Reads.{symbol, countsOf, readsIn}
 use Rattle.cycle.specs.Cycle.{listRefusal, xorOfCells, packetsOut, linesOut}
 use Rattle.cycle.specs.Served.{OpenedOnce, PlansAudited}
 use Rattle.cycle.specs.Parts.{Named}
@@ -35,7 +34,7 @@ use Rattle.memory.specs.State.{isFull, sound, Sound}
 use Rattle.memory.specs.Operations.{answerBy, storeRefusal, cycleRefusal, cycleOutcome, cycleOutput, cycleSchedule}
 use Rattle.memory.specs.Demand3.{RightForm, NamedRowsFull, NoneTooMany, ServedCycle, TooMany, Demand3}
 use Rattle.memory.proofs.States.{sound-words}
-use Rattle.memory.proofs.Accepted.{Readable, read-facts, facts-read}
+use Rattle.memory.proofs.Accepted.{Readable, store-facts, read-facts, facts-read}
 
 -- ---- what an answer tells of the verdict
 
@@ -97,17 +96,17 @@ module _ (st : State) (s reads out schedule : List ℕ) where
   readable : RightForm st (length s) reads (length out) (length schedule) → NamedRowsFull st reads → NoneTooMany sh reads
       → Readable st (length s) reads (length out) (length schedule)
   readable form full few =
-      let ok : sound st ≡ true = check-passed 5 0 (sound st) (first-accepted _ _ (form .store)) in
+      let store = store-facts st (length s) (form .store) in
       let named : Named sh reads = λ n l. form-named sh reads n (form .named n l) in
       let fit = both _ _ .0 (check-passed 16 0 _ (form .buffers)) in
       record {
-        state = ok;
-        store = eqb-true _ _ (check-passed 6 0 (eqb (length s) (storeSize sh)) (next-accepted (check 5 0 (sound st)) _ (form .store)));
+        state = store .0;
+        store = store .1;
         list = record {
           whole = eqb-true _ _ (check-passed 13 0 (eqb (length reads % 3) 0) (form .list));
           named = named;
           rows-full = full;
-          few = λ x l. rw (many (sound-words st ok) named x) at (few x l);
+          few = λ x l. rw (many (sound-words st (store .0)) named x) at (few x l);
           out-size = eqb-true _ _ (fit .0);
           schedule-size = eqb-true _ _ (fit .1);
         };
@@ -119,7 +118,7 @@ module _ (st : State) (s reads out schedule : List ℕ) where
       let five = never-check 12 5 0 (sound st) (λ z. omega arith) in
       let six = never-check 12 6 0 (eqb (length s) (storeSize sh)) (λ z. omega arith) in
       let list = skips 12 (storeRefusal st (length s)) _ x (never-then 12 _ _ five six) e in
-      let ok = sound-words st (check-passed 5 0 (sound st) (first-accepted _ _ (list .0))) in
+      let ok = sound-words st (store-facts st (length s) (list .0) .0) in
       let o = over sh (isFull st) reads (length out) (length schedule) x (list .1) in
       let more : limitOf (sh .k) < length (readsIn reads x) = rw (many ok (o .named) x) (o .many) in
       record {
@@ -133,6 +132,7 @@ module _ (st : State) (s reads out schedule : List ℕ) where
   demand3 = record {
     exactly = λ form full. (λ served. none-too-many (facts (served .answered)), λ few. serves-all (readable form full few));
     served = λ e. serves-all (facts e);
+    yields = λ e n l. opened-yields (sh .k) (sh .p) (symbol reads n) _ (serves-all (facts e) .each n l .pair);
     once = λ e. opens-once (facts e);
     limit = λ some x. limit-of-reads (sh .k) (sh .p) (readsIn reads x) some;
     refused = λ x e. too-many x (answered-no refusal 12 x e);

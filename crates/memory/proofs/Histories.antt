@@ -46,7 +46,7 @@ record Row (sh : Shape) (st : State) (s : List ℕ) (r : ℕ) (full : Bool) (las
   whole : full ≡ true → length last ≡ generationSize sh
   cells : (x b : ℕ) → CellOf sh x b r → full ≡ true → cellAt sh s x b r ≡ bankCell (sh .p) (packetsIn sh last x) b
 
-record Keeps (sh : Shape) (full : ℕ → Bool) (last : ℕ → List ℕ) (st : State) (s : List ℕ) : Type 0 where
+record Held (sh : Shape) (full : ℕ → Bool) (last : ℕ → List ℕ) (st : State) (s : List ℕ) : Type 0 where
   shape : st .shape ≡ sh
   sound : Sound st
   size : length s ≡ storeSize sh
@@ -55,7 +55,7 @@ record Keeps (sh : Shape) (full : ℕ → Bool) (last : ℕ → List ℕ) (st : 
 -- what an operation with verdict v gives: again such a memory, an answer that counts its full rows, and so many of them
 record Done (sh : Shape) (full : ℕ → Bool) (last : ℕ → List ℕ) (v : Verdict) (before : State) (operation : Operation) (outcome : Outcome)
     (s : List ℕ) : Type 0 where
-  keeps : Keeps sh full last (outcome .state) s
+  keeps : Held sh full last (outcome .state) s
   answer : outcome .answer ≡ answerBy (toldBy operation (howMany full (sh .g))) v
   count : fullRows (outcome .state) + ifRefused 0 (emptiedBy operation) v ≡ ifRefused 0 (filledBy operation) v + fullRows before
 
@@ -64,7 +64,7 @@ empty-row e = record { mark = e; whole = λ f. absurd (false≢true f); cells = 
 
 -- a write or a release: it tells the number of full rows
 accepted : {sh : Shape} {full : ℕ → Bool} {last : ℕ → List ℕ} {after : State} {s : List ℕ} (before : State) (operation : Operation)
-    → ((rows : ℕ) → FullRows rows ≡ toldBy operation rows) → Keeps sh full last after s → fullRows after + emptiedBy operation ≡ filledBy operation + fullRows before
+    → ((rows : ℕ) → FullRows rows ≡ toldBy operation rows) → Held sh full last after s → fullRows after + emptiedBy operation ≡ filledBy operation + fullRows before
     → Done sh full last Accepted before operation (outcomeBy before after Accepted) s
 accepted {sh = sh} {full = full} {after = after} before operation told k count = record {
   keeps = k;
@@ -82,7 +82,7 @@ each-row row F it others r = go (ℕ-discrete r row)
     go (yes e) = rw (e, eq-eqb row row refl) it
     go (no n) = rw (ne-eqb row r (λ e. n (sym e))) (others r n)
 
-module _ (st : State) (s : List ℕ) (full : ℕ → Bool) (last : ℕ → List ℕ) (kept : Keeps (st .shape) full last st s) (row : ℕ) where
+module _ (st : State) (s : List ℕ) (full : ℕ → Bool) (last : ℕ → List ℕ) (kept : Held (st .shape) full last st s) (row : ℕ) where
   -- ---- a write
 
   module _ (generation : List ℕ) where
@@ -91,7 +91,7 @@ module _ (st : State) (s : List ℕ) (full : ℕ → Bool) (last : ℕ → List 
     write-judged = rw (words-sound st (kept .sound), eq-eqb _ _ (kept .size), kept .rows row .mark)
 
     write-keeps : Writable st (length s) row (length generation)
-        → Keeps (st .shape) (fullBy (write row generation) full) (writtenBy (write row generation) last) (rowToggled st row)
+        → Held (st .shape) (fullBy (write row generation) full) (writtenBy (write row generation) last) (rowToggled st row)
         (rowWritten (st .shape) row generation s)
     write-keeps w =
         let put = row-written (st .shape) row generation s (w .below) (kept .size) (w .whole) in
@@ -125,7 +125,7 @@ module _ (st : State) (s : List ℕ) (full : ℕ → Bool) (last : ℕ → List 
   unfolding releaseRefusal
   release-judged = rw (words-sound st (kept .sound), kept .rows row .mark)
 
-  release-keeps : Releasable st row → Keeps (st .shape) (fullBy (release row) full) (writtenBy (release row) last) (rowToggled st row) s
+  release-keeps : Releasable st row → Held (st .shape) (fullBy (release row) full) (writtenBy (release row) last) (rowToggled st row) s
   release-keeps w =
       let fewer = row-emptied st row (w .below) (w .full) in
       record {
@@ -147,7 +147,7 @@ module _ (st : State) (s : List ℕ) (full : ℕ → Bool) (last : ℕ → List 
 
 -- ---- a read cycle
 
-module _ (st : State) (s : List ℕ) (full : ℕ → Bool) (last : ℕ → List ℕ) (kept : Keeps (st .shape) full last st s) (reads out schedule : List ℕ) where
+module _ (st : State) (s : List ℕ) (full : ℕ → Bool) (last : ℕ → List ℕ) (kept : Held (st .shape) full last st s) (reads out schedule : List ℕ) where
   read-judged : cycleRefusal st (length s) reads (length out) (length schedule) ≡ verdictIn (st .shape) full (read reads out schedule)
   unfolding cycleRefusal
   read-judged = rw (
@@ -186,7 +186,7 @@ module _ (st : State) (s : List ℕ) (full : ℕ → Bool) (last : ℕ → List 
 -- ---- every operation
 
 abbrev Agrees : Shape → History → Memory → Type 0
-Agrees sh history memory = Keeps sh (fullIn sh history) (lastWritten sh history) (memory .state) (memory .store)
+Agrees sh history memory = Held sh (fullIn sh history) (lastWritten sh history) (memory .state) (memory .store)
 
 abbrev Follows : Shape → History → Memory → Operation → Type 0
 Follows sh history memory operation =

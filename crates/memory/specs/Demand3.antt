@@ -7,12 +7,13 @@ use Prim.Native.Nat.{ℕ, _≤_, _<_}
 use lib.ListN.{length}
 use Rattle.refusals.specs.declared.Verdict.the-variants.{Accepted}
 use Rattle.simplex.specs.Shape.{limitOf}
-use Rattle.simplex.specs.Code.{Banks}
+use Rattle.simplex.specs.Code.{Banks, Yields}
 use Rattle.simplex.specs.Limit.{DisjointSets, SomeFails, LimitFor}
+use Rattle.audit.specs.Plan.{opened}
 use Rattle.layout.specs.declared.Shape.{Shape}
-use Rattle.cycle.specs.Reads.{readCount, row, readsIn}
+use Rattle.cycle.specs.Reads.{readCount, row, symbol, readsIn}
 use Rattle.cycle.specs.Cycle.{lengthRefusal, formRefusal, bufferRefusal}
-use Rattle.cycle.specs.Served.{ServedRead, OpenedOnce}
+use Rattle.cycle.specs.Served.{line, ServedRead, OpenedOnce}
 use Rattle.memory.specs.declared.State.{State}
 use Rattle.memory.specs.declared.Answer.{Answer}
 use Rattle.memory.specs.declared.Answer.the-variants.{Served, Refused}
@@ -48,13 +49,15 @@ pub record TooMany (sh : Shape) (reads : List ℕ) (x : ℕ) : Type 0 where
 
 -- Of a cycle over state st, store s, a list and buffers of these lengths, that gave this answer and left this output and this schedule.
 -- exactly: of the right form and with every named row full, it is served exactly when no group has more than 2^(K-1) reads.
--- served, once: where it answers that it is served, each read is, and no bank is opened twice.
+-- served, yields, once: where it answers that it is served, each read is; for every content, what the code puts into its line's banks XORs to its
+-- packet; and no bank is opened twice.
 -- limit: of a group with more than 2^(K-1) reads, whichever disjoint bank sets of any size they are given, some set fails its read.
 -- refused: so it is with the group at the place that 12 gives, and that is the lowest with too many.
 pub record Demand3 (st : State) (s reads : List ℕ) (outSize scheduleSize : ℕ) (answer : Answer) (out schedule : List ℕ) : Type 0 where
   pub exactly : RightForm st (length s) reads outSize scheduleSize → NamedRowsFull st reads
       → ServedCycle st s reads answer out schedule ↔ NoneTooMany (st .shape) reads
   pub served : answer ≡ Served → ServedCycle st s reads answer out schedule
+  pub yields : answer ≡ Served → (n : ℕ) → n < readCount reads → Yields (st .shape .k) (st .shape .p) (opened (line schedule n)) (symbol reads n)
   pub once : answer ≡ Served → OpenedOnce reads schedule
   pub limit : 1 ≤ st .shape .p → (x : ℕ) → LimitFor (st .shape .k) (st .shape .p) (readsIn reads x)
   pub refused : (x : ℕ) → answer ≡ Refused 12 x → TooMany (st .shape) reads x

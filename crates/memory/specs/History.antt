@@ -1,14 +1,14 @@
 -- Histories: what a memory holds after any operations, each with the state and the store that the one before left.
 use mathlib.Core.Path.{_≡_}
-use mathlib.Core.Bool.{Bool, true, false, cond, not}
+use mathlib.Core.Bool.{Bool, true, false, cond}
 use mathlib.Core.List.{List, [], _∷_}
 use Prim.Native.Nat.{ℕ, _+_, _*_, _<_}
-use lib.Dec.{eqb, ltb}
+use lib.Dec.{eqb}
 use lib.ListN.{length}
 use Rattle.bits.specs.Marks.{howMany}
 use Rattle.refusals.specs.declared.Verdict.{Verdict}
 use Rattle.refusals.specs.declared.Verdict.the-variants.{Accepted}
-use Rattle.refusals.specs.Verdict.{check, _then_, ifRefused}
+use Rattle.refusals.specs.Verdict.{ifRefused}
 use Rattle.cells.specs.Cell.{cell}
 use Rattle.simplex.specs.Code.{bankCell}
 use Rattle.audit.specs.Plan.{opened}
@@ -22,7 +22,7 @@ use Rattle.cycle.specs.Reads.{readCount, row, group, symbol}
 use Rattle.cycle.specs.Cycle.{listRefusal, xorOfCells}
 use Rattle.cycle.specs.Served.{line}
 use Rattle.memory.specs.State.{isFull, fullRows, Sound}
-use Rattle.memory.specs.Operations.{setUpOf, answerBy, packetsIn, packetIn, writeOutcome, writeStore, releaseOutcome, cycleOutcome, cycleOutput, cycleSchedule}
+use Rattle.memory.specs.Operations.{setUpOf, answerBy, packetsIn, packetIn, writeChecks, writeOutcome, writeStore, releaseChecks, releaseOutcome, cycleOutcome, cycleOutput, cycleSchedule}
 
 -- What may be asked of a memory: a write of a generation to a row, a release of a row, a read cycle with its list and its buffers.
 pub data Operation : Type 0 where
@@ -60,11 +60,10 @@ run new (operation ∷ history) = step (run new history) operation
 
 -- ---- what the history says by itself: no state and no store, but for the shape
 
--- The verdict on an operation, where these rows are full. After no history is the state broken or the store of a wrong length: there is no 5 and no 6.
-abbrev pub verdictIn : Shape → (ℕ → Bool) → Operation → Verdict
-verdictIn sh full (write row generation) =
-    check 7 0 (ltb row (sh .g)) then check 8 0 (not (full row)) then check 10 0 (eqb (length generation) (generationSize sh))
-verdictIn sh full (release row) = check 7 0 (ltb row (sh .g)) then check 9 0 (full row)
+-- The verdict on an operation, where these rows are full. A history never leaves a broken state or a store of a wrong length, so 5 and 6 do not occur.
+abbrev pub verdictIn : Shape → (full : ℕ → Bool) → Operation → Verdict
+verdictIn sh full (write row generation) = writeChecks sh full row (length generation)
+verdictIn sh full (release row) = releaseChecks sh full row
 verdictIn sh full (read reads out schedule) = listRefusal sh full reads (length out) (length schedule)
 
 -- What an accepted operation tells, with this number of full rows.
@@ -106,7 +105,7 @@ emptiedBy (write row generation) = 0
 emptiedBy (release row) = 1
 emptiedBy (read reads out schedule) = 0
 
--- How many all accepted operations of a history did.
+-- The sum of this over the accepted operations of a history.
 abbrev pub inAll : (Operation → ℕ) → Shape → History → ℕ
 inAll rows sh [] = 0
 inAll rows sh (operation ∷ history) = ifRefused 0 (rows operation) (verdictIn sh (fullIn sh history) operation) + inAll rows sh history

@@ -1,5 +1,5 @@
 -- Set-up, write, release and the read cycle: when each is refused, what it answers, and what state, store and buffers it leaves.
-use mathlib.Core.Bool.{not}
+use mathlib.Core.Bool.{Bool, not}
 use mathlib.Core.List.{List}
 use Prim.Native.Nat.{ℕ, zero, suc, _+_, _*_}
 use lib.Dec.{eqb, ltb}
@@ -39,13 +39,13 @@ storeRefusal st size = check 5 0 (sound st) then check 6 0 (eqb size (storeSize 
 
 -- ---- write
 
--- 5 and 6. 7, the row is G or more. 8, the row is full. 10, the generation isn't m·K·P bytes.
+-- Where these rows are full. 7, the row is G or more. 8, the row is full. 10, the generation isn't m·K·P bytes.
+abbrev pub writeChecks : Shape → (full : ℕ → Bool) → (row len : ℕ) → Verdict
+writeChecks sh full row len = check 7 0 (ltb row (sh .g)) then check 8 0 (not (full row)) then check 10 0 (eqb len (generationSize sh))
+
+-- 5 and 6; then 7, 8, 10.
 unfoldable pub writeRefusal : State → (size row len : ℕ) → Verdict
-writeRefusal st size row len =
-    storeRefusal st size
-    then check 7 0 (ltb row (st .shape .g))
-    then check 8 0 (not (isFull st row))
-    then check 10 0 (eqb len (generationSize (st .shape)))
+writeRefusal st size row len = storeRefusal st size then writeChecks (st .shape) (isFull st) row len
 
 -- The packets of group x: a generation has those of group 0 in symbol order, then those of group 1, and so on.
 abbrev pub packetsIn : Shape → List ℕ → ℕ → List Packet
@@ -60,25 +60,29 @@ abbrev pub groupWritten : Shape → (x row : ℕ) → List Packet → List ℕ �
 groupWritten sh x row packets s = filled (sh .p) packets (λ b. offset sh x b row) (banks sh) s
 
 -- The same for the first n groups of a generation.
-unfoldable pub groupsWritten : Shape → ℕ → List ℕ → ℕ → List ℕ → List ℕ
+unfoldable pub groupsWritten : Shape → (row : ℕ) → (generation : List ℕ) → (n : ℕ) → (s : List ℕ) → List ℕ
 groupsWritten sh row generation zero s = s
 groupsWritten sh row generation (suc x) s = groupWritten sh x row (packetsIn sh generation x) (groupsWritten sh row generation x s)
 
 -- The same for all m groups: the store after a write.
-abbrev pub rowWritten : Shape → ℕ → List ℕ → List ℕ → List ℕ
+abbrev pub rowWritten : Shape → (row : ℕ) → (generation s : List ℕ) → List ℕ
 rowWritten sh row generation s = groupsWritten sh row generation (sh .m) s
 
 abbrev pub writeOutcome : State → (size row len : ℕ) → Outcome
 writeOutcome st size row len = outcomeBy st (rowToggled st row) (writeRefusal st size row len)
 
-abbrev pub writeStore : State → List ℕ → ℕ → List ℕ → List ℕ
+abbrev pub writeStore : State → (s : List ℕ) → (row : ℕ) → (generation : List ℕ) → List ℕ
 writeStore st s row generation = ifRefused s (rowWritten (st .shape) row generation s) (writeRefusal st (length s) row (length generation))
 
 -- ---- release
 
--- 5, the state is broken. 7, the row is G or more. 9, the row is empty.
-unfoldable pub releaseRefusal : State → ℕ → Verdict
-releaseRefusal st row = check 5 0 (sound st) then check 7 0 (ltb row (st .shape .g)) then check 9 0 (isFull st row)
+-- 7, the row is G or more. 9, the row is empty.
+abbrev pub releaseChecks : Shape → (full : ℕ → Bool) → (row : ℕ) → Verdict
+releaseChecks sh full row = check 7 0 (ltb row (sh .g)) then check 9 0 (full row)
+
+-- 5, the state is broken; then 7, 9.
+unfoldable pub releaseRefusal : State → (row : ℕ) → Verdict
+releaseRefusal st row = check 5 0 (sound st) then releaseChecks (st .shape) (isFull st) row
 
 abbrev pub releaseOutcome : State → ℕ → Outcome
 releaseOutcome st row = outcomeBy st (rowToggled st row) (releaseRefusal st row)

@@ -10,7 +10,7 @@ use lib.Dec.{leb}
 use lib.ListN.{length}
 use Rattle.refusals.specs.declared.Verdict.{Verdict}
 use Rattle.refusals.specs.declared.Verdict.the-variants.{Accepted, Refused}
-use Rattle.refusals.specs.Verdict.{check}
+use Rattle.refusals.specs.Verdict.{check, ifRefused}
 use Rattle.refusals.proofs.Verdicts.{first-accepted, next-accepted, check-passed}
 use Rattle.simplex.specs.Shape.{mostSymbols, limitOf}
 use Rattle.simplex.specs.Limit.{total}
@@ -21,7 +21,7 @@ use Rattle.audit.proofs.Served.{few}
 use Rattle.audit.proofs.Answer.{request, accepted, says-yes, pairs-bytes, even-bytes}
 use Rattle.plan.specs.declared.Planned.{Planned}
 use Rattle.plan.specs.Finding.{planOf}
-use Rattle.plan.specs.Planned.{planRefusal, stored, pairsIf, planAnswer, PlanFor}
+use Rattle.plan.specs.Planned.{planRefusal, stored, planAnswer, PlanFor}
 use Rattle.plan.specs.Laws.{WithinLimit}
 use Rattle.plan.proofs.Planning.{is-plan, passes}
 use Rattle.plan.proofs.Storing.{read-back}
@@ -70,7 +70,7 @@ module _ (K : ℕ) (counts : List ℕ) where
       (ap (isPlan K counts) (pairs-bytes (planOf K counts)) ∙ passes K counts w)
 
   -- the plan of an accepted request, read back from its arrays
-  pub plan-for : length counts ≡ mostSymbols → planRefusal K counts ≡ Accepted → PlanFor K counts (stored (planOf K counts))
+  plan-for : length counts ≡ mostSymbols → planRefusal K counts ≡ Accepted → PlanFor K counts (stored (planOf K counts))
   plan-for n e =
       let w = exactly n .0 e in
       let pairs = planOf K counts in
@@ -84,5 +84,5 @@ module _ (K : ℕ) (counts : List ℕ) where
   pub valid : length counts ≡ mostSymbols → (r : Planned) → r ≡ planAnswer K counts → planRefusal K counts ≡ Accepted → PlanFor K counts (r .plan)
   unfolding planAnswer
   valid n r e a =
-      let same : r .plan ≡ stored (planOf K counts) = ap (λ (x : Planned). x .plan) e ∙ ap (λ (v : Verdict). stored (pairsIf v (planOf K counts))) a in
+      let same : r .plan ≡ stored (planOf K counts) = ap (λ (x : Planned). x .plan) e ∙ ap (λ (v : Verdict). stored (ifRefused [] (planOf K counts) v)) a in
       subst (PlanFor K counts) (sym same) (plan-for n a)

@@ -5,8 +5,7 @@ use Prim.Native.Nat.{ℕ}
 use lib.Dec.{leb}
 use lib.ListN.{length, getD}
 use Rattle.refusals.specs.declared.Verdict.{Verdict}
-use Rattle.refusals.specs.declared.Verdict.the-variants.{Accepted, Refused}
-use Rattle.refusals.specs.Verdict.{check, _then_}
+use Rattle.refusals.specs.Verdict.{check, _then_, ifRefused}
 use Rattle.simplex.specs.Shape.{mostPairs, limitOf}
 use Rattle.simplex.specs.Limit.{total}
 use Rattle.audit.specs.declared.Audited.the-variants.{Yes}
@@ -21,23 +20,17 @@ use Rattle.plan.specs.Finding.{planOf}
 unfoldable pub planRefusal : ℕ → List ℕ → Verdict
 planRefusal K counts = countsRefusal K counts then check 12 0 (leb (total counts) (limitOf K))
 
--- Pairs in arrays of sixteen: places after the last pair hold (0, 0).
+-- One bank of each pair, in an array of sixteen: places after the last pair hold 0.
+abbrev pub column : (Pair → ℕ) → List Pair → List ℕ
+column bank pairs = listOf (λ n. bank (pairAt pairs n)) 0 mostPairs
+
+-- Pairs in two such arrays, and how many they are.
 abbrev pub stored : List Pair → Plan
-stored pairs =
-    record {
-      first = listOf (λ n. pairAt pairs n .a) 0 mostPairs;
-      second = listOf (λ n. pairAt pairs n .b) 0 mostPairs;
-      len = length pairs;
-    }
+stored pairs = record { first = column (λ p. p .a) pairs; second = column (λ p. p .b) pairs; len = length pairs }
 
--- A refused plan has no pairs.
-abbrev pub pairsIf : Verdict → List Pair → List Pair
-pairsIf Accepted pairs = pairs
-pairsIf (Refused number place) pairs = []
-
--- What the planner answers: the verdict, and the pairs of the plan, if there is one.
+-- What the planner answers: the verdict, and the pairs of the plan; none where it is refused.
 unfoldable pub planAnswer : ℕ → List ℕ → Planned
-planAnswer K counts = record { verdict = planRefusal K counts; plan = stored (pairsIf (planRefusal K counts) (planOf K counts)) }
+planAnswer K counts = let verdict = planRefusal K counts in record { verdict = verdict; plan = stored (ifRefused [] (planOf K counts) verdict) }
 
 -- The pairs of a plan, read from its arrays.
 abbrev pub pairsIn : Plan → List Pair

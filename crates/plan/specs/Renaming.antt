@@ -13,12 +13,12 @@ pub record Permutes (K : ℕ) (to : ℕ → ℕ) : Type 0 where
   pub apart : (i j : ℕ) → i < K → j < K → to i ≡ to j → i ≡ j
 
 -- The bank b with its first n symbols renamed: it has symbol i where b has symbol `to i`.
-unfoldable pub renamed : (ℕ → ℕ) → ℕ → ℕ → ℕ
+unfoldable pub renamed : (to : ℕ → ℕ) → (n b : ℕ) → ℕ
 renamed to zero b = 0
 renamed to (suc n) b = renamed to n b + bit b (to n) * 2 ^ n
 
 -- Pair j of symbol i, taken from a plan for the counts c in which symbol i has the name `to i`.
-abbrev pub taken : ℕ → (ℕ → ℕ) → List ℕ → List Pair → ℕ → ℕ → Pair
+abbrev pub taken : (K : ℕ) → (to : ℕ → ℕ) → (c : List ℕ) → List Pair → (i j : ℕ) → Pair
 taken K to c pairs i j = pairWith i (renamed to K (pairAt pairs (start c (to i) + j) .b))
 
 -- From a plan for the counts c comes one for all counts that ask no more of each symbol, under any other names of the symbols.

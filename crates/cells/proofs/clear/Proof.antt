@@ -5,7 +5,7 @@ use native.Mathlib.Omega.{arith}
 use lib.ListN.{length, getD, length-set, length-replicate, getD-replicate}
 use lib.Seq.{ext-getD}
 use Rattle.cells.specs.Xor.{zeros}
-use Rattle.cells.proofs.Turns.{zero-next}
+use Rattle.cells.proofs.Turns.{set-more}
 use Rattle.cells.proofs.clear.Statement.{statement}
 use Rattle.cells.proofs.clear.Tie as tie
 
@@ -29,7 +29,7 @@ loop-less c = simp length-set (omega arith)
 
 loop-again : tie.Need-loop-again Inv-loop μ-loop
 loop-again c =
-    (simp length-set (omega arith), simp length-set (omega arith), zero-next (c .before .loop .s) (c .before .loop .i) (omega arith) (c .before .loop .inv .2))
+    (simp length-set (omega arith), simp length-set (omega arith), set-more (c .before .loop .s) (c .before .loop .i) 0 (λ _. 0) (omega arith) refl (c .before .loop .inv .2))
 
 same-length : tie.Need-same-length Inv-loop μ-loop
 same-length c = omega arith

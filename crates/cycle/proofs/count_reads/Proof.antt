@@ -14,10 +14,10 @@ use Rattle.cycle.proofs.count_reads.Statement.{statement}
 use Rattle.cycle.proofs.count_reads.Tie as tie
 
 abbrev Inv-loop : tie.InvT-loop
-Inv-loop reads counts₀ many n₀ counts n = (n ≤ many) × Grid (λ x i. 0 + countOf reads x i n) counts
+Inv-loop reads counts₀ count n₀ counts n = (n ≤ count) × Grid (λ x i. 0 + countOf reads x i n) counts
 
 abbrev μ-loop : tie.MeasureT-loop
-μ-loop reads counts₀ many n₀ counts n = many - n
+μ-loop reads counts₀ count n₀ counts n = count - n
 
 -- the entry and the read's group and symbol, from a turn
 abbrev St : tie.In-loop Inv-loop μ-loop → tie.Start Inv-loop μ-loop

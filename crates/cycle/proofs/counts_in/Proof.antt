@@ -5,7 +5,7 @@ use native.Mathlib.Nat.{not-suc-le-zero}
 use native.Mathlib.Omega.{arith}
 use lib.ListN.{length, getD, length-set}
 use Rattle.simplex.specs.Shape.{mostSymbols}
-use Rattle.plan.proofs.Sorting.{set-more}
+use Rattle.cells.proofs.Turns.{set-more}
 use Rattle.table.proofs.Grouped.{list-is}
 use Rattle.cycle.proofs.counts_in.Statement.{statement}
 use Rattle.cycle.proofs.counts_in.Tie as tie

@@ -16,10 +16,10 @@ use Rattle.cycle.proofs.judge_reads.Statement.{statement}
 use Rattle.cycle.proofs.judge_reads.Tie as tie
 
 abbrev Inv-loop : tie.InvT-loop
-Inv-loop shape full reads many n₀ n = (n ≤ many) × (firstRefusal (readRefusal shape (marked full) reads) n ≡ Accepted)
+Inv-loop shape full reads count n₀ n = (n ≤ count) × (firstRefusal (readRefusal shape (marked full) reads) n ≡ Accepted)
 
 abbrev μ-loop : tie.MeasureT-loop
-μ-loop shape full reads many n₀ n = many - n
+μ-loop shape full reads count n₀ n = count - n
 
 abbrev Refusal : tie.Start Inv-loop μ-loop → ℕ → Verdict
 Refusal s = readRefusal (s .args .shape) (marked (s .args .full)) (now (s .args .reads))

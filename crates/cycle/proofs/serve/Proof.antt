@@ -13,17 +13,17 @@ use Rattle.simplex.specs.Shape.{mostSymbols}
 use Rattle.layout.proofs.Ranges.{few-banks}
 use Rattle.cycle.specs.Reads.{readCount}
 use Rattle.cycle.specs.Cycle.{packetOf, lineOf}
-use Rattle.cycle.proofs.Serving.{room, Next, none-served, Turn, turn}
+use Rattle.cycle.proofs.Serving.{room, NextPairs, none-served, Turn, turn}
 use Rattle.cycle.proofs.serve.Statement.{statement}
 use Rattle.cycle.proofs.serve.Tie as tie
 
 abbrev Inv-loop : tie.InvT-loop
-Inv-loop shape store reads out₀ schedule₀ first second next₀ p many to₀ n₀ out schedule next to n =
+Inv-loop shape store reads out₀ schedule₀ first second next₀ p all to₀ n₀ out schedule next to n =
     (n ≤ readCount reads) × (to ≡ n * shape .p) × (out ≡ putEach (shape .p) (packetOf shape store reads) n out₀)
-    × (schedule ≡ putEach 2 (lineOf (shape .k) reads) n schedule₀) × Next reads n next
+    × (schedule ≡ putEach 2 (lineOf (shape .k) reads) n schedule₀) × NextPairs reads n next
 
 abbrev μ-loop : tie.MeasureT-loop
-μ-loop shape store reads out₀ schedule₀ first second next₀ p many to₀ n₀ out schedule next to n = readCount reads - n
+μ-loop shape store reads out₀ schedule₀ first second next₀ p all to₀ n₀ out schedule next to n = readCount reads - n
 
 -- the function's entry, from a turn
 abbrev St : tie.In-loop Inv-loop μ-loop → tie.Start Inv-loop μ-loop
@@ -33,7 +33,7 @@ abbrev Reads : tie.In-loop Inv-loop μ-loop → List ℕ
 Reads d = now (St d .args .reads)
 
 below : (d : tie.In-loop Inv-loop μ-loop) → d .before .loop .n < readCount (Reads d)
-below d = d .loop-test .taken
+below d = omega (arith, d .loop-test .taken)
 
 -- the buffers have room for it
 out-room : (d : tie.In-loop Inv-loop μ-loop) → d .before .loop .to + St d .args .shape .p ≤ length (d .before .loop .out)

@@ -6,7 +6,7 @@ use native.Mathlib.Omega.{arith}
 use lib.ListN.{length, getD, length-set}
 use Rattle.simplex.specs.Shape.{mostSymbols, mostPairs}
 use Rattle.layout.specs.Shape.{mostGroups}
-use Rattle.plan.proofs.Sorting.{set-more}
+use Rattle.cells.proofs.Turns.{set-more}
 use Rattle.cycle.proofs.Starts.{startAt, start-none, start-next, start-more, starts-grid}
 use Rattle.cycle.proofs.starts_of.Statement.{statement}
 use Rattle.cycle.proofs.starts_of.Tie as tie

@@ -30,11 +30,6 @@ E1 c = c .before .before
 abbrev E2 : tie.Else2 → tie.Else1
 E2 c = c .before .before
 
-past-two : (c : tie.Else2) → let a = St (E1 (E2 c)) .args in
-    writeRefusal (a .state) (a .size) (a .row) (a .len) ≡ check 10 0 (eqb (a .len) (generationSize (a .state .shape)))
-unfolding writeRefusal
-past-two c = rw (lent (E1 (E2 c)), lt-ltb _ _ (E2 c .if1 .left), sym (c .before .is-marked .ensures) ∙ c .if2 .left)
-
 judge-store-requires : tie.Need-judge-store-requires
 judge-store-requires c κs = search needs
 
@@ -59,6 +54,12 @@ unfolding writeRefusal
 returns-3 c =
     let e = c .before .before in
     rw (lent (E1 e), lt-ltb _ _ (e .if1 .left), sym (c .before .is-marked .ensures) ∙ c .if2 .taken)
+
+-- past 7 and 8, only 10 is left
+past-two : (c : tie.Else2) → let a = St (E1 (E2 c)) .args in
+    writeRefusal (a .state) (a .size) (a .row) (a .len) ≡ check 10 0 (eqb (a .len) (generationSize (a .state .shape)))
+unfolding writeRefusal
+past-two c = rw (lent (E1 (E2 c)), lt-ltb _ _ (E2 c .if1 .left), sym (c .before .is-marked .ensures) ∙ c .if2 .left)
 
 generation-size-requires : tie.Need-generation-size-requires
 generation-size-requires c κs = ranges (E1 (E2 c))
