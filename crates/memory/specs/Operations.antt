@@ -29,7 +29,8 @@ abbrev pub answerBy : Answer → Verdict → Answer
 answerBy told Accepted = told
 answerBy told (Refused number place) = NotDone number place
 
--- What an operation gives that makes one state into another: the state as it was where it is refused, else the number of full rows.
+-- What an operation gives that makes one state into another: refused, the state as it was and the refusal; else the state made, and the number of
+-- its full rows.
 abbrev pub outcomeBy : (before after : State) → Verdict → Outcome
 outcomeBy before after verdict = record { state = ifRefused before after verdict; answer = answerBy (FullRows (fullRows after)) verdict }
 
