@@ -6,6 +6,7 @@ ghost use lib.ListN.{length};
 ghost use Rattle.simplex.specs.Shape.{mostSymbols, mostPairs, banksOf};
 ghost use Rattle.layout.specs.Shape.{mostGroups, mostRows};
 use crate::print_number;
+use crate::print_refusal;
 use crate::print_text;
 use layout::MOST_GROUPS;
 use libc::STDOUT_FILENO;
@@ -20,7 +21,7 @@ const ROWS: usize = 4;
 const BYTES: usize = 3;
 
 // What the buffers hold before a cycle.
-const UNTOUCHED: u8 = 238;
+pub const UNTOUCHED: u8 = 238;
 
 // Room for the largest K, and for one read more than its limit.
 const STORE: usize = MOST_GROUPS * ((1 << MOST_SYMBOLS) - 1) * ROWS * BYTES;
@@ -86,12 +87,7 @@ pub fn print_answer(outcome: Outcome) {
         Answer::Served => {
             print_text(b"served");
         }
-        Answer::Refused(refusal, place) => {
-            print_text(b"refused ");
-            print_number(refusal as u64);
-            print_text(b", place ");
-            print_number(place as u64);
-        }
+        Answer::Refused(refusal, place) => print_refusal(refusal, place),
     }
     print_text(b"\n");
 }

@@ -44,6 +44,13 @@ pub fn print_number(n: u64) {
     io::print_decimal(STDOUT_FILENO, n);
 }
 
+pub fn print_refusal(refusal: u8, place: usize) {
+    print_text(b"refused ");
+    print_number(refusal as u64);
+    print_text(b", place ");
+    print_number(place as u64);
+}
+
 // The pairs of a plan as the audit takes them: two bytes each.
 fn bytes_of(plan: Plan) -> [u8; 2 * MOST_PAIRS] {
     let first = plan.first;
@@ -148,10 +155,8 @@ fn show(k: usize, counts: [usize; MOST_SYMBOLS]) {
             }
         }
         Verdict::Refused(refusal, place) => {
-            print_text(b" refused ");
-            print_number(refusal as u64);
-            print_text(b", place ");
-            print_number(place as u64);
+            print_text(b" ");
+            print_refusal(refusal, place);
             print_text(b"\n");
         }
     }

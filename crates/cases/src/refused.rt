@@ -1,19 +1,17 @@
 // A small memory: its whole store, and the refusals that no session meets (5, 6 and 16), each where later numbers apply too. It has K = 2, two groups,
 // packets of one byte and two rows. Last, the refusals of an audit. tools/cases.py has the answers by the words of the rules.
 ghost use Prim.Native.Nat.{_≤_};
+use crate::cycles::UNTOUCHED;
 use crate::cycles::print_answer;
 use crate::cycles::print_hexadecimal;
 use crate::cycles::show_read;
-use crate::print_number;
+use crate::print_refusal;
 use crate::print_text;
 use audit::Audited;
 use memory::State;
 use simplex::MOST_SYMBOLS;
 
 const STORE: usize = 12;
-
-// What the buffers hold before a cycle.
-const UNTOUCHED: u8 = 238;
 
 fn show_store(store: [u8; STORE]) {
     print_text(b"store ");
@@ -94,12 +92,7 @@ fn show_audit(k: usize, counts: [usize; MOST_SYMBOLS]) {
     match audited {
         Audited::Yes => print_text(b"yes"),
         Audited::No => print_text(b"no"),
-        Audited::Refused(refusal, place) => {
-            print_text(b"refused ");
-            print_number(refusal as u64);
-            print_text(b", place ");
-            print_number(place as u64);
-        }
+        Audited::Refused(refusal, place) => print_refusal(refusal, place),
     }
     print_text(b"\n");
 }
