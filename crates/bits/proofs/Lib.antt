@@ -2,3 +2,4 @@
 pub mod Digits
 pub mod Bits
 pub mod Marks
+pub mod Sets

@@ -43,7 +43,7 @@ pub toggled-below : (set i n : ℕ) → i < n → noneFrom set n ≡ true → no
 toggled-below set i n l e =
     eq-eqb _ _ (xor-shr set (2 ^ i) n ∙ ap₂ bitXor (eqb-true (set / 2 ^ n) 0 e) (div-eq-of-lt (pow-lt l)))
 
-bit-shr : (set n i : ℕ) → bit (set / 2 ^ n) i ≡ bit set (n + i)
+pub bit-shr : (set n i : ℕ) → bit (set / 2 ^ n) i ≡ bit set (n + i)
 bit-shr set n i = ap (λ (x : ℕ). x % 2) (shr-shr set n i)
 
 pub none-marked : (set n : ℕ) → noneFrom set n ≡ true → (i : ℕ) → n ≤ i → marked set i ≡ false

@@ -1,7 +1,10 @@
 // Sets of numbers below 64, as marks in one word.
 ghost use mathlib.Core.Path.{_≡_};
+ghost use mathlib.Core.Bool.{_&&_, not};
 ghost use Prim.Native.Nat.{_≤_, _<_};
+ghost use lib.Dec.{ltb};
 ghost use Rattle.bits.specs.Marks.{marked, toggled, noneFrom, howMany, TheMarks};
+ghost use Rattle.bits.specs.Sets.{setOf, First, TheSets};
 
 // How many numbers a word has marks for.
 const MARKS: usize = 64;
@@ -9,6 +12,11 @@ const MARKS: usize = 64;
 // Carries the laws of marks. It does nothing.
 pub fn the_marks()
     ensures { λ _. ⌜ TheMarks ⌝ }
+{}
+
+// Carries the laws of sets by a test. It does nothing.
+pub fn the_sets()
+    ensures { λ _. ⌜ TheSets ⌝ }
 {}
 
 // Whether `i` is marked.
@@ -44,4 +52,26 @@ pub fn count(set: u64) -> usize
     ensures { λ r. ⌜ r ≡ howMany (marked set) 64 ⌝ }
 {
     u64::count_ones(set) as usize
+}
+
+// The set of the numbers below `n`.
+pub fn below(n: usize) -> u64
+    requires { ⌜ (1 ≤ n) × (n ≤ 64) ⌝ }
+    ensures { λ r. ⌜ r ≡ setOf (λ i. ltb i n) 64 ⌝ }
+{
+    u64::MAX >> (MARKS - n)
+}
+
+// The set without what another has.
+pub fn without(set: u64, other: u64) -> u64
+    ensures { λ r. ⌜ r ≡ setOf (λ i. marked set i && not (marked other i)) 64 ⌝ }
+{
+    set & !other
+}
+
+// The first that is marked; 64 where none is.
+pub fn first(set: u64) -> usize
+    ensures { λ r. ⌜ First (marked set) 64 r ⌝ }
+{
+    u64::trailing_zeros(set) as usize
 }
