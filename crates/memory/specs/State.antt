@@ -32,6 +32,10 @@ empty sh = record { shape = sh; full = 0 }
 abbrev pub zeroState : State
 zeroState = empty (record { k = 0; m = 0; p = 0; g = 0 })
 
+-- The state with just these rows full.
+abbrev pub withFull : State → ℕ → State
+withFull st full = record { shape = st .shape; full = full }
+
 -- The state with row r's mark toggled: an empty row becomes full, a full one empty.
 abbrev pub rowToggled : State → ℕ → State
-rowToggled st r = record { shape = st .shape; full = toggled (st .full) r }
+rowToggled st r = withFull st (toggled (st .full) r)

@@ -3,13 +3,14 @@ ghost use mathlib.Core.Path.{_≡_};
 ghost use mathlib.Core.Bool.{true};
 ghost use Prim.Native.Nat.{_*_, _<_};
 ghost use lib.ListN.{length};
+ghost use Rattle.bits.specs.Marks.{marked, howMany};
 ghost use Rattle.refusals.specs.declared.Verdict.the-variants.{Accepted};
 ghost use Rattle.simplex.specs.Filling.{packetsOf};
-ghost use Rattle.layout.specs.Shape.{InRange, storeSize, generationSize};
-ghost use Rattle.memory.specs.State.{sound, rowToggled};
+ghost use Rattle.layout.specs.Shape.{mostRows, InRange, storeSize, generationSize};
+ghost use Rattle.memory.specs.State.{sound, withFull, rowToggled};
 ghost use Rattle.memory.specs.Operations.{setUpOf, outcomeBy, storeRefusal, writeRefusal, groupWritten, rowWritten, writeOutcome, writeStore, releaseRefusal, releaseOutcome, cycleOutcome, cycleOutput, cycleSchedule};
 ghost use Rattle.cycle.specs.Served.{PlansAudited};
-ghost use Rattle.memory.specs.declared.Answer.the-variants.{Served};
+ghost use Rattle.memory.specs.declared.Answer.the-variants.{FullRows, Served};
 ghost use Rattle.memory.specs.Demand3.{Demand3};
 ghost use Rattle.memory.specs.Laws.{TheMemory};
 use layout::Shape;
@@ -161,18 +162,24 @@ impl State {
         }
     }
 
-    // A row's mark toggled: what an accepted write or release gives.
-    fn toggle_row(self, row: usize) -> Outcome
-        requires { ⌜ (sound self ≡ true) × (row < self .shape .g) ⌝ }
-        ensures { λ r. ⌜ r ≡ outcomeBy self (rowToggled self row) Accepted ⌝ }
+    // The state with just these rows full, and how many they are.
+    fn with_full(self, full: u64) -> Outcome
+        ensures { λ r. ⌜ r ≡ record { state = withFull self full; answer = FullRows (howMany (marked full) mostRows) } ⌝ }
     {
         let shape = self.shape;
-        let full = bits::toggle(self.full, row);
         let rows = bits::count(full);
         Outcome {
             state: State { shape, full },
             answer: Answer::FullRows(rows),
         }
+    }
+
+    // A row's mark toggled: what an accepted write or release gives.
+    fn toggle_row(self, row: usize) -> Outcome
+        requires { ⌜ (sound self ≡ true) × (row < self .shape .g) ⌝ }
+        ensures { λ r. ⌜ r ≡ outcomeBy self (rowToggled self row) Accepted ⌝ }
+    {
+        self.with_full(bits::toggle(self.full, row))
     }
 
     // Writes a generation, m·K packets, to an empty row, which it makes full; or refuses: 5, 6, 7, 8, 10.
