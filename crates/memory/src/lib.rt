@@ -10,7 +10,7 @@ ghost use Rattle.layout.specs.Shape.{mostRows, InRange, storeSize, generationSi
 ghost use Rattle.memory.specs.State.{sound, withFull, rowToggled};
 ghost use Rattle.memory.specs.Operations.{setUpOf, outcomeBy, storeRefusal, writeRefusal, groupWritten, rowWritten, writeOutcome, writeStore, releaseRefusal, releaseOutcome, cycleOutcome, cycleOutput, cycleSchedule};
 ghost use Rattle.cycle.specs.Served.{PlansAudited};
-ghost use Rattle.memory.specs.declared.Answer.the-variants.{FullRows, Served};
+ghost use Rattle.memory.specs.declared.Answer.the-variants.{FullRows, Served, Refused};
 ghost use Rattle.memory.specs.Demand3.{Demand3};
 ghost use Rattle.memory.specs.Laws.{TheMemory};
 use layout::Shape;
@@ -162,6 +162,16 @@ impl State {
         }
     }
 
+    // The state as it is, and a refusal.
+    fn refuse(self, number: u8, place: usize) -> Outcome
+        ensures { λ r. ⌜ r ≡ record { state = self; answer = Refused number place } ⌝ }
+    {
+        Outcome {
+            state: self,
+            answer: Answer::Refused(number, place),
+        }
+    }
+
     // The state with just these rows full, and how many they are.
     fn with_full(self, full: u64) -> Outcome
         ensures { λ r. ⌜ r ≡ record { state = withFull self full; answer = FullRows (howMany (marked full) mostRows) } ⌝ }
@@ -189,10 +199,7 @@ impl State {
     {
         let verdict = judge_write(self, store.len(), row, generation.len());
         if let Verdict::Refused(number, place) = verdict {
-            return Outcome {
-                state: self,
-                answer: Answer::Refused(number, place),
-            };
+            return self.refuse(number, place);
         }
         write_row(store, self.shape, row, generation);
         self.toggle_row(row)
@@ -204,10 +211,7 @@ impl State {
     {
         let verdict = judge_release(self, row);
         if let Verdict::Refused(number, place) = verdict {
-            return Outcome {
-                state: self,
-                answer: Answer::Refused(number, place),
-            };
+            return self.refuse(number, place);
         }
         self.toggle_row(row)
     }
@@ -230,17 +234,11 @@ impl State {
     {
         let lent = judge_store(self, store.len());
         if let Verdict::Refused(number, place) = lent {
-            return Outcome {
-                state: self,
-                answer: Answer::Refused(number, place),
-            };
+            return self.refuse(number, place);
         }
         let verdict = cycle::run(self.shape, self.full, store, reads, out, schedule);
         if let Verdict::Refused(number, place) = verdict {
-            return Outcome {
-                state: self,
-                answer: Answer::Refused(number, place),
-            };
+            return self.refuse(number, place);
         }
         Outcome {
             state: self,

@@ -33,13 +33,17 @@ judge-store-requires c κs = search needs
 enum-known-lent : tie.Need-enum-known-lent
 enum-known-lent c = search needs
 
+refuse-requires : tie.Need-refuse-requires
+refuse-requires c κs = search needs
+
 returns : tie.Need-returns
 returns c =
-    let j = c .before .before .before in
+    let j = c .before .before .before .before in
     let a = j .before .before .before .before .before .args in
-    let e = sym (j .judge-store .ensures) ∙ c .before .lent .given .1 in
-    promised (a .self) (now (a .store)) (now (a .reads)) (now (a .out)) (now (a .schedule)) _ _
-    (by-store (a .self) (now (a .store)) (now (a .reads)) (now (a .out)) (now (a .schedule)) _ _ e) refl _ _ refl refl
+    let e = sym (j .judge-store .ensures) ∙ c .before .before .lent .given .1 in
+    rw (c .refuse .ensures)
+    (promised (a .self) (now (a .store)) (now (a .reads)) (now (a .out)) (now (a .schedule)) _ _
+    (by-store (a .self) (now (a .store)) (now (a .reads)) (now (a .out)) (now (a .schedule)) _ _ e) refl _ _ refl refl)
 
 enum-told : tie.Need-enum-told
 enum-told c = search needs
@@ -53,6 +57,9 @@ run-requires c κs =
 enum-known-verdict : tie.Need-enum-known-verdict
 enum-known-verdict c = search needs
 
+refuse-requires-2 : tie.Need-refuse-requires-2
+refuse-requires-2 c κs = search needs
+
 same-length : tie.Need-same-length
 same-length c = search needs
 
@@ -61,10 +68,11 @@ same-length-2 c = search needs
 
 returns-2 : tie.Need-returns-2
 returns-2 c =
-    let r = c .before .before .before .before .before .before .before in
+    let r = c .before .before .before .before .before .before .before .before in
     let a = St (r .before .before .before) .args in
-    promised (a .self) (now (a .store)) (now (a .reads)) (now (a .out)) (now (a .schedule)) (r .run .result) _ (verdict r)
-    (c .before .verdict .given .1) _ _ (r .run .ensures .1 .0) (r .run .ensures .1 .1)
+    rw (c .refuse2 .ensures)
+    (promised (a .self) (now (a .store)) (now (a .reads)) (now (a .out)) (now (a .schedule)) (r .run .result) _ (verdict r)
+    (c .before .before .verdict .given .1) _ _ (r .run .ensures .1 .0) (r .run .ensures .1 .1))
 
 enum-told-2 : tie.Need-enum-told-2
 enum-told-2 c = search needs
@@ -88,10 +96,12 @@ read-cycle-spec =
     (tie.spec
     judge-store-requires
     enum-known-lent
+    refuse-requires
     returns
     enum-told
     run-requires
     enum-known-verdict
+    refuse-requires-2
     same-length
     same-length-2
     returns-2

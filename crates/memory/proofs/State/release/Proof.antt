@@ -16,8 +16,11 @@ judge-release-requires c κs = search needs
 enum-known-verdict : tie.Need-enum-known-verdict
 enum-known-verdict c = search needs
 
+refuse-requires : tie.Need-refuse-requires
+refuse-requires c κs = search needs
+
 returns : tie.Need-returns
-returns c = rw (sym (c .before .before .before .judge-release .ensures) ∙ c .before .verdict .given .1)
+returns c = rw (sym (c .before .before .before .before .judge-release .ensures) ∙ c .before .before .verdict .given .1) (c .refuse .ensures)
 
 enum-told : tie.Need-enum-told
 enum-told c = search needs
@@ -34,6 +37,7 @@ release-spec =
     (tie.spec
     judge-release-requires
     enum-known-verdict
+    refuse-requires
     returns
     enum-told
     toggle-row-requires

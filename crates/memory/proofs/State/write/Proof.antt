@@ -25,8 +25,12 @@ judge-write-requires c κs = search needs
 enum-known-verdict : tie.Need-enum-known-verdict
 enum-known-verdict c = search needs
 
+refuse-requires : tie.Need-refuse-requires
+refuse-requires c κs = search needs
+
 returns : tie.Need-returns
-returns c = let e = sym (c .before .before .before .judge-write .ensures) ∙ c .before .verdict .given .1 in (rw e, rw e)
+returns c =
+    let e = sym (c .before .before .before .before .judge-write .ensures) ∙ c .before .before .verdict .given .1 in (rw e (c .refuse .ensures), rw e)
 
 enum-told : tie.Need-enum-told
 enum-told c = search needs
@@ -51,6 +55,7 @@ write-spec =
     (tie.spec
     judge-write-requires
     enum-known-verdict
+    refuse-requires
     returns
     enum-told
     write-row-requires
