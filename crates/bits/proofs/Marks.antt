@@ -1,7 +1,7 @@
 -- Laws of marks: one toggled, the others left alone, none from a number on, and how many they are; and of how many numbers pass any test.
 use mathlib.Core.Path.{_≡_, refl, sym, ap, ap₂, _∙_}
 use mathlib.Core.Logic.{_≢_, ⊎-elim}
-use mathlib.Core.Bool.{Bool, true, false, not, cond, false≢true}
+use mathlib.Core.Bool.{Bool, true, false, not, _&&_, cond, false≢true}
 use Prim.Native.Nat.{ℕ, zero, suc, _+_, _-_, _*_, _/_, _%_, _^_, _≤_, _<_}
 use native.Mathlib.Nat.{le-refl, div-eq-of-lt, one-mul, eq-or-lt-of-le, le-of-suc-le-suc, mod-lt, mod-eq-of-lt, mod-one, add-zero, zero-add}
 use native.Mathlib.Omega.{arith}
@@ -120,6 +120,19 @@ one-more f g i (suc n) l off on same =
     (λ (e : i ≡ n). rw (← e, off, on, same-many g f i (λ j b. same j (λ s. omega arith))) (omega arith))
     (λ (b : i < n). rw (one-more f g i n b off on same, same n (λ s. omega arith)) (omega arith))
     (eq-or-lt-of-le (le-of-suc-le-suc l))
+
+-- what passes g passes f: those that pass g, and those that pass f alone
+pub many-without : (f g : ℕ → Bool) (n : ℕ) → ((i : ℕ) → i < n → g i ≡ true → f i ≡ true)
+    → howMany (λ i. f i && not (g i)) n + howMany g n ≡ howMany f n
+many-without f g zero more = refl
+many-without f g (suc n) more =
+    omega (arith, many-without f g n (λ i l. more i (omega arith)), parts (f n) (g n) (more n (omega arith)))
+  where
+    parts : (x y : Bool) → (y ≡ true → x ≡ true) → cond {A = ℕ} (x && not y) 1 0 + cond y 1 0 ≡ cond x 1 0
+    parts true true h = refl
+    parts true false h = refl
+    parts false true h = absurd (false≢true (h refl))
+    parts false false h = refl
 
 cond-digit : (d : ℕ) → d < 2 → cond (eqb d 1) 1 0 ≡ d
 cond-digit = digit (λ (d : ℕ). cond (eqb d 1) 1 0 ≡ d) refl refl

@@ -3,9 +3,9 @@ use mathlib.Core.Path.{_≡_, refl, sym, ap, _∙_}
 use mathlib.Core.Bool.{Bool, true, false, _&&_, not, cond, false≢true}
 use mathlib.Core.Logic.{⊎-elim}
 use Prim.Native.Nat.{ℕ, zero, suc, _+_, _-_, _*_, _/_, _%_, _^_, _≤_, _<_}
-use native.Mathlib.Nat.{div-eq-of-lt, one-mul, zero-mul, pow-suc, eq-or-lt-of-le, le-of-suc-le-suc, div-le-self}
+use native.Mathlib.Nat.{div-eq-of-lt, one-mul, zero-mul, pow-suc, eq-or-lt-of-le, le-of-suc-le-suc, div-le-self, div-lt-iff-lt-mul}
 use native.Mathlib.Omega.{arith}
-use borrow.Author.Tests.{eq-eqb, ltb-true, ltb-false}
+use borrow.Author.Tests.{eq-eqb, eqb-true, ltb-true, ltb-false}
 use lib.Bits.{bitAnd, and-shr, and-mod, and-lt}
 use lib.Count.{trailingZeros, under}
 use lib.Dec.{eqb, ltb}
@@ -15,7 +15,7 @@ use Rattle.bits.specs.Marks.{marked}
 use Rattle.bits.specs.Sets.{setOf, First}
 use Rattle.bits.proofs.Digits.{digit, low-lt}
 use Rattle.bits.proofs.Bits.{bit-half, bit-zero, bit-below, bit-top, bits-below, same-bits}
-use Rattle.bits.proofs.Marks.{bit-shr, none-marked}
+use Rattle.bits.proofs.Marks.{bit-shr, none-marked, marked-none}
 
 -- equal digits are marked alike
 alike : {d e : ℕ} → d ≡ e → eqb d 1 ≡ eqb e 1
@@ -57,6 +57,19 @@ marked-set test (suc n) i l =
 pub marked-past : (test : ℕ → Bool) (n i : ℕ) → n ≤ i → marked (setOf test n) i ≡ false
 marked-past test n = none-marked (setOf test n) n (eq-eqb _ _ (div-eq-of-lt (set-lt test n)))
 
+pub same-set : (f g : ℕ → Bool) (n : ℕ) → ((i : ℕ) → i < n → f i ≡ g i) → setOf f n ≡ setOf g n
+unfolding setOf
+same-set f g zero h = refl
+same-set f g (suc n) h = rw (same-set f g n (λ i l. h i (omega arith)), h n (omega arith))
+
+-- the first in the set is the first that passes
+pub first-passes : (test : ℕ → Bool) (n r : ℕ) → First (marked (setOf test n)) n r → First test n r
+first-passes test n r f = record {
+  most = f .most;
+  before = λ i l. sym (marked-set test n i (omega (arith, f .most))) ∙ f .before i l;
+  itself = λ l. sym (marked-set test n r l) ∙ f .itself l;
+}
+
 -- digits with the same mark are the same
 same-digit : (d e : ℕ) → d < 2 → e < 2 → eqb d 1 ≡ eqb e 1 → d ≡ e
 same-digit d e hd he =
@@ -68,6 +81,12 @@ pub only-set : (test : ℕ → Bool) (n set : ℕ) → set < 2 ^ n → ((i : ℕ
 only-set test n set h same =
     same-bits n set (setOf test n) h (set-lt test n)
     (λ i l. same-digit (bit set i) (bit (setOf test n) i) (low-lt (set / 2 ^ i)) (low-lt (setOf test n / 2 ^ i)) (same i l ∙ sym (marked-set test n i l)))
+
+-- a word that marks nothing from n on
+pub none-lt : (set n : ℕ) → ((i : ℕ) → n ≤ i → marked set i ≡ false) → set < 2 ^ n
+none-lt set n off =
+    let none : set / 2 ^ n ≡ 0 = eqb-true (set / 2 ^ n) 0 (marked-none set n off) in
+    rw (one-mul (2 ^ n)) at (div-lt-iff-lt-mul {x = set} {y = 1} (pow-pos n) .0 (omega (arith, none)))
 
 -- ---- as the code computes them
 

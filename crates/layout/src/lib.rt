@@ -11,7 +11,7 @@ pub const MOST_GROUPS: usize = 8;
 
 const MOST_PACKET_BYTES: usize = 2048;
 
-const MOST_ROWS: usize = 64;
+pub const MOST_ROWS: usize = 64;
 
 // K symbols in a group, m groups, P bytes in a packet, G rows.
 pub struct Shape {
