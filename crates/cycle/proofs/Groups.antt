@@ -3,7 +3,7 @@ use mathlib.Core.Path.{_≡_, refl, sym, ap, _∙_}
 use mathlib.Core.Logic.{_≢_}
 use mathlib.Core.Bool.{Bool, true, false}
 use mathlib.Core.List.{List, []}
-use Prim.Native.Nat.{ℕ, _+_, _-_, _*_, _/_, _%_, _≤_, _<_}
+use Prim.Native.Nat.{ℕ, _+_, _*_, _/_, _%_, _≤_, _<_}
 use native.Mathlib.Omega.{arith}
 use borrow.Author.Tests.{ltb-true, ltb-false, ne-eqb}
 use lib.Dec.{leb, ltb}
@@ -27,13 +27,14 @@ use Rattle.plan.specs.Planned.{planRefusal, column, stored, planAnswer}
 use Rattle.plan.proofs.Storing.{in-column}
 use Rattle.layout.specs.declared.Shape.{Shape}
 use Rattle.layout.specs.Shape.{mostGroups, InRange}
+use Rattle.reads.specs.Reads.{readCount, group, isFor, countOf, countsOf}
+use Rattle.reads.specs.Refusals.{groupRefusal}
+use Rattle.reads.specs.Parts.{Named, Grid, countsIn}
+use Rattle.reads.proofs.Counting.{count-at, request}
+use Rattle.reads.proofs.Grids.{grid-counts}
+use Rattle.reads.proofs.Accepted.{accepted-few, few-pairs}
 use Rattle.cycle.specs.declared.Plans.{Plans}
-use Rattle.cycle.specs.Reads.{readCount, group, isFor, countOf, countsOf}
-use Rattle.cycle.specs.Cycle.{groupRefusal}
-use Rattle.cycle.specs.Parts.{Named, Grid, countsIn, PlansFor}
-use Rattle.cycle.proofs.Counting.{count-at, request}
-use Rattle.cycle.proofs.Grids.{grid-counts}
-use Rattle.cycle.proofs.Accepted.{accepted-few, few-pairs}
+use Rattle.cycle.specs.Parts.{PlansFor}
 
 -- ---- the arrays
 

@@ -14,10 +14,10 @@ use Rattle.simplex.specs.Limit.{In}
 use Rattle.audit.specs.Plan.{Pair, opens, opened, Serves}
 use Rattle.layout.specs.declared.Shape.{Shape}
 use Rattle.layout.specs.Shape.{InRange, banks, storeSize, offset, cellAt}
-use Rattle.cycle.specs.Reads.{readCount, row, group, symbol}
+use Rattle.reads.specs.Reads.{readCount, row, group, symbol}
+use Rattle.reads.specs.Parts.{Named, Few}
 use Rattle.cycle.specs.Cycle.{pairOf, xorOfCells, packetOf, lineOf, packetsOut, linesOut}
 use Rattle.cycle.specs.Served.{line, ServedRead, OpenedOnce}
-use Rattle.cycle.specs.Parts.{Named, Few}
 use Rattle.cycle.proofs.Pairs.{pair-serves, pairs-once}
 use Rattle.cycle.proofs.Serving.{within}
 

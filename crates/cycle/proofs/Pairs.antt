@@ -16,11 +16,11 @@ use Rattle.plan.specs.Laws.{WithinLimit}
 use Rattle.plan.proofs.Planning.{is-plan}
 use Rattle.plan.proofs.Answering.{audited}
 use Rattle.layout.specs.declared.Shape.{Shape}
-use Rattle.cycle.specs.Reads.{readCount, group, symbol, ordinal, countsOf}
+use Rattle.reads.specs.Reads.{readCount, group, symbol, ordinal, countsOf}
+use Rattle.reads.specs.Parts.{Named, Few}
+use Rattle.reads.proofs.Counting.{ordinal-less, request, earlier}
 use Rattle.cycle.specs.Cycle.{pairOf}
 use Rattle.cycle.specs.Served.{PlansAudited}
-use Rattle.cycle.specs.Parts.{Named, Few}
-use Rattle.cycle.proofs.Counting.{ordinal-less, request, earlier}
 
 module _ (sh : Shape) (reads : List ℕ) (range : SymbolsInRange (sh .k)) (named : Named sh reads) where
   -- read n of group x is one of its symbol's

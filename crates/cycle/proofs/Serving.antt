@@ -1,13 +1,9 @@
--- Laws of serving: sizes that fit, and what each turn puts out.
+-- Laws of serving: room for each read, and what each turn puts out.
 use mathlib.Core.Path.{_≡_, refl, sym, ap, _∙_}
-use mathlib.Core.Bool.{Bool, true, false, _&&_}
 use mathlib.Core.List.{List, [], _∷_}
-use Prim.Native.Nat.{ℕ, zero, suc, _+_, _-_, _*_, _/_, _%_, _≤_, _<_}
-use native.Mathlib.Nat.{add-zero, add-assoc, mul-mod-left, mul-div-cancel, div-add-mod'}
-use native.Mathlib.Decide.{ℕ-discrete}
+use Prim.Native.Nat.{ℕ, zero, suc, _+_, _*_, _≤_, _<_}
+use native.Mathlib.Nat.{add-zero, add-assoc}
 use native.Mathlib.Omega.{arith}
-use borrow.Author.Tests.{eq-eqb, ne-eqb}
-use lib.Dec.{eqb}
 use lib.ListN.{length, getD, set, take}
 use Rattle.cells.specs.Cell.{put, putEach}
 use Rattle.cells.specs.Xor.{xorBytes, zeros}
@@ -22,30 +18,14 @@ use Rattle.audit.specs.Plan.{opens, Serves, start}
 use Rattle.layout.specs.declared.Shape.{Shape}
 use Rattle.layout.specs.Shape.{mostGroups, InRange, banks, storeSize, offset, cellAt}
 use Rattle.layout.proofs.Places.{inside}
+use Rattle.reads.specs.Reads.{readCount, row, group, symbol, countOf, ordinal, countsOf}
+use Rattle.reads.specs.Parts.{Named, Grid, Few}
+use Rattle.reads.proofs.Grids.{grid-turn}
+use Rattle.reads.proofs.Accepted.{few-pairs}
 use Rattle.cycle.specs.declared.Plans.{Plans}
-use Rattle.cycle.specs.Reads.{readCount, row, group, symbol, countOf, ordinal, countsOf}
 use Rattle.cycle.specs.Cycle.{pairOf, xorOfCells, packetOf, lineOf}
-use Rattle.cycle.specs.Parts.{Named, Grid, Few, PlansFor}
-use Rattle.cycle.proofs.Grids.{grid-turn}
-use Rattle.cycle.proofs.Accepted.{few-pairs}
+use Rattle.cycle.specs.Parts.{PlansFor}
 use Rattle.cycle.proofs.Pairs.{pair-place, pair-serves}
-
--- ---- sizes that fit: p bytes for each of n reads
-
-module _ (p n size : ℕ) where
-  pub multiple : 1 ≤ p → size % p ≡ 0 → eqb (size / p) n ≡ eqb size (n * p)
-  multiple some e = go (ℕ-discrete (size / p) n)
-    where
-      go : Dec (size / p ≡ n) → eqb (size / p) n ≡ eqb size (n * p)
-      go (yes q) = rw (eq-eqb _ _ q, eq-eqb size (n * p) (omega (arith, div-add-mod' size p, ap (λ (x : ℕ). x * p) q)))
-      go (no d) = rw (ne-eqb _ _ d, ne-eqb size (n * p) (λ z. d (ap (λ (x : ℕ). x / p) z ∙ mul-div-cancel n some)))
-
-  pub no-multiple : (size % p ≡ 0 → ⊥) → eqb size (n * p) ≡ false
-  no-multiple d = ne-eqb _ _ (λ z. d (ap (λ (x : ℕ). x % p) z ∙ mul-mod-left n p))
-
-pub not-both : (t u v : Bool) → (t && u) ≡ false → (u ≡ false → v ≡ false) → (t && v) ≡ false
-not-both true u v e f = f e
-not-both false u v e f = refl
 
 -- the place of read n, once the parts of those before it are put
 pub room : (size : ℕ) (f : ℕ → List ℕ) (n count at : ℕ) (s now : List ℕ) → n < count → length s ≡ count * size → now ≡ putEach size f n s

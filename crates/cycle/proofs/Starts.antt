@@ -11,7 +11,7 @@ use Rattle.audit.specs.Plan.{start}
 use Rattle.audit.proofs.Places.{start-suc}
 use Rattle.table.proofs.Grouped.{of-at}
 use Rattle.layout.specs.Shape.{mostGroups}
-use Rattle.cycle.specs.Parts.{countsIn, Grid}
+use Rattle.reads.specs.Parts.{countsIn, Grid}
 
 pub startAt : List ℕ → ℕ → ℕ
 startAt counts e = e / mostSymbols * mostPairs + start (countsIn counts (e / mostSymbols)) (e % mostSymbols)

@@ -1,5 +1,4 @@
--- The definitions of the crate: the reads of a cycle, what a cycle does, what it is to be served, and laws.
-pub mod Reads
+-- The definitions of the crate: what a cycle puts out, what it is to be served, and laws.
 pub mod Cycle
 pub mod Served
 pub mod Laws

@@ -9,7 +9,7 @@ use Rattle.audit.specs.Plan.{Pair, opened, Serves}
 use Rattle.audit.specs.Audit.{pairIn, pairBytes, auditOf}
 use Rattle.plan.specs.Finding.{planOf}
 use Rattle.layout.specs.declared.Shape.{Shape}
-use Rattle.cycle.specs.Reads.{readCount, row, group, symbol, countsOf}
+use Rattle.reads.specs.Reads.{readCount, row, group, symbol, countsOf}
 use Rattle.cycle.specs.Cycle.{xorOfCells}
 
 -- Line n of a schedule.

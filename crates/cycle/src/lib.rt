@@ -1,9 +1,7 @@
 // A read cycle: its list is judged, its reads are counted by group and symbol, each group is planned, and every read is served.
 ghost use mathlib.Core.Path.{_≡_};
-ghost use mathlib.Core.Bool.{_&&_};
 ghost use mathlib.Core.List.{_∷_, []};
 ghost use Prim.Native.Nat.{ℕ, _+_, _*_, _≤_, _<_};
-ghost use lib.Dec.{eqb};
 ghost use lib.ListN.{length, getD};
 ghost use Rattle.bits.specs.Marks.{marked};
 ghost use Rattle.refusals.specs.declared.Verdict.the-variants.{Accepted};
@@ -12,19 +10,20 @@ ghost use Rattle.cells.specs.Cell.{put};
 ghost use Rattle.simplex.specs.Shape.{mostSymbols, mostPairs};
 ghost use Rattle.audit.specs.Plan.{opens, start};
 ghost use Rattle.layout.specs.Shape.{mostGroups, InRange, banks, storeSize};
-ghost use Rattle.cycle.specs.Reads.{readCount, field, countOf};
-ghost use Rattle.cycle.specs.Cycle.{readRefusal, groupRefusal, listRefusal, xorOfCells, packetsOut, linesOut};
+ghost use Rattle.reads.specs.Reads.{readCount};
+ghost use Rattle.reads.specs.Refusals.{groupRefusal, listRefusal};
+ghost use Rattle.reads.specs.Parts.{Named, Grid, countsIn, Few};
+ghost use Rattle.cycle.specs.Cycle.{xorOfCells, packetsOut, linesOut};
 ghost use Rattle.cycle.specs.Laws.{TheCycle};
-ghost use Rattle.cycle.specs.Parts.{Named, Grid, countsIn, InGrid, Few, PlansFor};
+ghost use Rattle.cycle.specs.Parts.{PlansFor};
 use layout::MOST_GROUPS;
 use layout::Shape;
+use reads::ALL_SYMBOLS;
 use refusals::Verdict;
 use simplex::MOST_PAIRS;
 use simplex::MOST_SYMBOLS;
 
-// The most symbols of all groups together, and the most pairs of their plans.
-const ALL_SYMBOLS: usize = MOST_GROUPS * MOST_SYMBOLS;
-
+// The most pairs of the plans of all groups together.
 const ALL_PAIRS: usize = MOST_GROUPS * MOST_PAIRS;
 
 // The plans of all groups, and for each symbol of each group where its next pair stands in them.
@@ -40,87 +39,10 @@ struct Planning {
     plans: Plans,
 }
 
-// Carries the laws of lists of reads. It does nothing.
+// Carries the laws of what a cycle puts out. It does nothing.
 pub fn the_cycle()
     ensures { λ _. ⌜ TheCycle ⌝ }
 {}
-
-// Byte f of read n.
-fn field_of(reads: &[u8], n: usize, f: usize) -> usize
-    requires { ⌜ (n < readCount (now reads)) × (f < 3) ⌝ }
-    ensures { λ r. ⌜ (r ≡ field (now (reads .entry)) n f) × (r < 256) ⌝ }
-{
-    reads[n * 3 + f] as usize
-}
-
-// The refusal of read n by itself: 7, 14, 15, 9.
-fn judge_read(shape: Shape, full: u64, reads: &[u8], n: usize) -> Verdict
-    requires { ⌜ InRange shape × (n < readCount (now reads)) ⌝ }
-    ensures { λ r. ⌜ r ≡ readRefusal shape (marked full) (now (reads .entry)) n ⌝ }
-{
-    let row = field_of(reads, n, 0);
-    if shape.g <= row {
-        return Verdict::Refused(7, n);
-    }
-    if shape.m <= field_of(reads, n, 1) {
-        return Verdict::Refused(14, n);
-    }
-    if shape.k <= field_of(reads, n, 2) {
-        return Verdict::Refused(15, n);
-    }
-    if !bits::is_marked(full, row) {
-        return Verdict::Refused(9, n);
-    }
-    Verdict::Accepted
-}
-
-// The first refusal of a read.
-fn judge_reads(shape: Shape, full: u64, reads: &[u8]) -> Verdict
-    requires { ⌜ InRange shape ⌝ }
-    ensures { λ r. ⌜ r ≡ firstRefusal (readRefusal shape (marked full) (now (reads .entry))) (readCount (now (reads .entry))) ⌝ }
-{
-    let count = reads.len() / 3;
-    let mut n = 0;
-    while n < count {
-        let verdict = judge_read(shape, full, reads, n);
-        if let Verdict::Refused(number, place) = verdict {
-            return Verdict::Refused(number, place);
-        }
-        n += 1;
-    }
-    Verdict::Accepted
-}
-
-// How often each symbol of each group is read, in whichever rows.
-fn count_reads(reads: &[u8]) -> [usize; ALL_SYMBOLS]
-    requires { ⌜ InGrid (now reads) ⌝ }
-    ensures { λ r. ⌜ Grid (λ x i. countOf (now (reads .entry)) x i (readCount (now (reads .entry)))) r ⌝ }
-{
-    let mut counts = [0; ALL_SYMBOLS];
-    let count = reads.len() / 3;
-    let mut n = 0;
-    while n < count {
-        let e = field_of(reads, n, 1) * MOST_SYMBOLS + field_of(reads, n, 2);
-        counts[e] = counts[e] + 1;
-        n += 1;
-    }
-    counts
-}
-
-// The counts of group x.
-fn counts_in(counts: [usize; ALL_SYMBOLS], x: usize) -> [usize; MOST_SYMBOLS]
-    requires { ⌜ x < mostGroups ⌝ }
-    ensures { λ r. ⌜ r ≡ countsIn counts x ⌝ }
-{
-    let from = x * MOST_SYMBOLS;
-    let mut own = [0; MOST_SYMBOLS];
-    let mut i = 0;
-    while i < MOST_SYMBOLS {
-        own[i] = counts[from + i];
-        i += 1;
-    }
-    own
-}
 
 // Where the pairs of each symbol of each group start among those of all groups.
 fn starts_of(counts: [usize; ALL_SYMBOLS]) -> [usize; ALL_SYMBOLS]
@@ -147,13 +69,13 @@ fn plan_groups(shape: Shape, reads: &[u8]) -> Planning
     ensures verdict { λ r. ⌜ r .verdict ≡ firstRefusal (groupRefusal shape (now (reads .entry))) (shape .m) ⌝ }
     ensures plans { λ r. ⌜ (r .verdict ≡ Accepted → PlansFor shape (now (reads .entry)) (r .plans)) ⌝ }
 {
-    let counts = count_reads(reads);
+    let counts = reads::count_reads(reads);
     let groups = shape.m;
     let mut first = [0; ALL_PAIRS];
     let mut second = [0; ALL_PAIRS];
     let mut x = 0;
     while x < groups {
-        let planned = plan::plan_group(shape.k, counts_in(counts, x));
+        let planned = plan::plan_group(shape.k, reads::counts_in(counts, x));
         let verdict = planned.verdict;
         if let Verdict::Refused(number, _) = verdict {
             // No plan is used of a cycle that is refused.
@@ -181,14 +103,6 @@ fn plan_groups(shape: Shape, reads: &[u8]) -> Planning
             next: starts_of(counts),
         },
     }
-}
-
-// Whether the output has p bytes for each of n reads, and the schedule two. Nothing is multiplied: any lengths may come in.
-fn buffers_fit(p: usize, n: usize, out: usize, schedule: usize) -> bool
-    requires { ⌜ 1 ≤ p ⌝ }
-    ensures { λ r. ⌜ r ≡ (eqb out (n * p) && eqb schedule (n * 2)) ⌝ }
-{
-    out % p == 0 && out / p == n && schedule % 2 == 0 && schedule / 2 == n
 }
 
 // The cell of `out` at `at` becomes the XOR of the cells of banks a and b of group x in a row, or the cell of bank a where b is 0.
@@ -247,9 +161,9 @@ fn serve(
     let mut to = 0;
     let mut n = 0;
     while n < all {
-        let row = field_of(reads, n, 0);
-        let x = field_of(reads, n, 1);
-        let e = x * MOST_SYMBOLS + field_of(reads, n, 2);
+        let row = reads::field_of(reads, n, 0);
+        let x = reads::field_of(reads, n, 1);
+        let e = x * MOST_SYMBOLS + reads::field_of(reads, n, 2);
         let j = next[e];
         next[e] = j + 1;
         let a = first[j];
@@ -279,7 +193,7 @@ pub fn run(
     if reads.len() % 3 != 0 {
         return Verdict::Refused(13, 0);
     }
-    let verdict = judge_reads(shape, full, reads);
+    let verdict = reads::judge_reads(shape, full, reads);
     if let Verdict::Refused(number, place) = verdict {
         return Verdict::Refused(number, place);
     }
@@ -288,7 +202,7 @@ pub fn run(
     if let Verdict::Refused(number, place) = planned {
         return Verdict::Refused(number, place);
     }
-    if !buffers_fit(shape.p, reads.len() / 3, out.len(), schedule.len()) {
+    if !reads::buffers_fit(shape.p, reads.len() / 3, out.len(), schedule.len()) {
         return Verdict::Refused(16, 0);
     }
     serve(shape, store, reads, planning.plans, out, schedule);

@@ -10,7 +10,7 @@ use borrow.Rule.Slice.PartMut.{putMid}
 use borrow.Table.Elements.{take-le}
 use Rattle.cells.specs.Cell.{cell}
 use Rattle.cells.specs.Xor.{zeros}
-use Rattle.cycle.specs.Reads.{readCount}
+use Rattle.reads.specs.Reads.{readCount}
 use Rattle.layout.specs.Shape.{storeSize}
 use Rattle.memory.specs.declared.State.{State}
 use Rattle.memory.specs.declared.Outcome.{Outcome}

@@ -15,8 +15,8 @@ use Rattle.simplex.proofs.Tables.{limit-most}
 use Rattle.layout.specs.declared.Shape.{Shape}
 use Rattle.layout.specs.Shape.{shapeRefusal, InRange, banks}
 use Rattle.layout.proofs.Ranges.{range-words, all-banks}
-use Rattle.cycle.specs.Reads.{readCount}
-use Rattle.cycle.specs.Cycle.{listRefusal}
+use Rattle.reads.specs.Reads.{readCount}
+use Rattle.reads.specs.Refusals.{listRefusal}
 use Rattle.memory.specs.declared.State.{State}
 use Rattle.memory.specs.declared.Answer.{Answer}
 use Rattle.memory.specs.declared.Answer.the-variants.{Served}

@@ -15,7 +15,7 @@ use Rattle.cells.specs.Xor.{zeros}
 use Rattle.cells.proofs.Each.{length-each}
 use Rattle.layout.specs.declared.Shape.{Shape}
 use Rattle.layout.specs.Shape.{shapeRefusal, storeSize}
-use Rattle.cycle.specs.Reads.{readCount, row, group, symbol}
+use Rattle.reads.specs.Reads.{readCount, row, group, symbol}
 use Rattle.cycle.specs.Cycle.{packetOf, packetsOut}
 use Rattle.memory.specs.declared.State.{State}
 use Rattle.memory.specs.declared.Answer.{Answer}

@@ -15,9 +15,9 @@ use Rattle.refusals.specs.Verdict.{_then_}
 use Rattle.cells.specs.Xor.{zeros}
 use Rattle.simplex.specs.Shape.{SymbolsInRange, banksOf, limitOf}
 use Rattle.layout.specs.Shape.{banks, storeSize}
-use Rattle.cycle.specs.Reads.{readCount}
-use Rattle.cycle.specs.Cycle.{bufferRefusal, listRefusal}
-use Rattle.cycle.proofs.Counting.{reads-most}
+use Rattle.reads.specs.Reads.{readCount}
+use Rattle.reads.specs.Refusals.{bufferRefusal, listRefusal}
+use Rattle.reads.proofs.Counting.{reads-most}
 use Rattle.memory.specs.declared.State.{State}
 use Rattle.memory.specs.declared.Answer.the-variants.{Served}
 use Rattle.memory.specs.Operations.{answerBy, cycleRefusal, cycleOutcome, cycleOutput}

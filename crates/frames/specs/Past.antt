@@ -6,7 +6,7 @@ use lib.ListN.{length, take, drop}
 use Rattle.refusals.specs.Verdict.{ifRefused}
 use Rattle.cells.specs.Cell.{cell}
 use Rattle.layout.specs.declared.Shape.{Shape}
-use Rattle.cycle.specs.Reads.{readCount, row, group, symbol}
+use Rattle.reads.specs.Reads.{readCount, row, group, symbol}
 use Rattle.memory.specs.declared.State.{State}
 use Rattle.memory.specs.Operations.{packetIn}
 use Rattle.memory.specs.History.{Operation, write, release, History, lastWritten, Remembers}

@@ -10,7 +10,7 @@ use Rattle.cells.specs.Xor.{zeros}
 use Rattle.simplex.specs.Shape.{limitOf}
 use Rattle.layout.specs.declared.Shape.{Shape}
 use Rattle.layout.specs.Shape.{banks, storeSize}
-use Rattle.cycle.specs.Reads.{readCount}
+use Rattle.reads.specs.Reads.{readCount}
 use Rattle.memory.specs.declared.State.{State}
 use Rattle.memory.specs.Operations.{setUpOf, cycleOutput}
 use Rattle.memory.specs.History.{Operation, write, release, read, Memory, outcomeOf, storeAfter}

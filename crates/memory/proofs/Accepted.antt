@@ -7,8 +7,8 @@ use borrow.Author.Tests.{eqb-true, ltb-true, not-true, eq-eqb}
 use lib.Dec.{eqb}
 use Rattle.refusals.specs.declared.Verdict.the-variants.{Accepted, Refused}
 use Rattle.refusals.proofs.Verdicts.{checks}
-use Rattle.cycle.specs.Cycle.{listRefusal}
-use Rattle.cycle.proofs.Accepted.{Accepts, accepts, accepted}
+use Rattle.reads.specs.Refusals.{listRefusal}
+use Rattle.reads.proofs.Accepted.{Accepts, accepts, accepted}
 use Rattle.memory.specs.declared.State.{State}
 use Rattle.layout.specs.Shape.{storeSize, generationSize}
 use Rattle.memory.specs.State.{isFull, sound}

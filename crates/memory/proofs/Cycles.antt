@@ -19,13 +19,14 @@ use Rattle.audit.specs.Plan.{Pair, opens, opened, Serves}
 use Rattle.audit.proofs.Served.{opens-xor, opened-yields}
 use Rattle.layout.specs.declared.Shape.{Shape}
 use Rattle.layout.specs.Shape.{banks, storeSize, cellAt}
-use Rattle.cycle.specs.Reads.{symbol, countsOf, readsIn}
-use Rattle.cycle.specs.Cycle.{listRefusal, xorOfCells, packetsOut, linesOut}
+use Rattle.reads.specs.Reads.{symbol, countsOf, readsIn}
+use Rattle.reads.specs.Refusals.{listRefusal}
+use Rattle.reads.specs.Parts.{Named}
+use Rattle.reads.proofs.Counting.{reads-many}
+use Rattle.reads.proofs.Accepted.{form-named}
+use Rattle.reads.proofs.Refused.{over}
+use Rattle.cycle.specs.Cycle.{xorOfCells, packetsOut, linesOut}
 use Rattle.cycle.specs.Served.{OpenedOnce, PlansAudited}
-use Rattle.cycle.specs.Parts.{Named}
-use Rattle.cycle.proofs.Counting.{reads-many}
-use Rattle.cycle.proofs.Accepted.{form-named}
-use Rattle.cycle.proofs.Refused.{over}
 use Rattle.cycle.proofs.Pairs.{plans-audited}
 use Rattle.cycle.proofs.Lines.{served-read, opened-once}
 use Rattle.memory.specs.declared.State.{State}

@@ -19,10 +19,10 @@ use Rattle.simplex.specs.Code.{bankCell}
 use Rattle.simplex.proofs.Filling.{length-packets}
 use Rattle.audit.specs.Plan.{opened}
 use Rattle.layout.specs.declared.Shape.{Shape}
-use Rattle.cycle.specs.Reads.{readCount, row, group, symbol}
+use Rattle.reads.specs.Reads.{readCount, row, group, symbol}
+use Rattle.reads.proofs.Accepted.{judged-alike}
 use Rattle.cycle.specs.Cycle.{xorOfCells}
 use Rattle.cycle.specs.Served.{line}
-use Rattle.cycle.proofs.Accepted.{judged-alike}
 use Rattle.memory.specs.declared.State.{State}
 use Rattle.memory.specs.declared.Outcome.{Outcome}
 use Rattle.memory.specs.declared.Answer.the-variants.{FullRows, Served}

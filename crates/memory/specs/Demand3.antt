@@ -11,8 +11,8 @@ use Rattle.simplex.specs.Code.{Banks, Yields}
 use Rattle.simplex.specs.Limit.{DisjointSets, SomeFails, LimitFor}
 use Rattle.audit.specs.Plan.{opened}
 use Rattle.layout.specs.declared.Shape.{Shape}
-use Rattle.cycle.specs.Reads.{readCount, row, symbol, readsIn}
-use Rattle.cycle.specs.Cycle.{lengthRefusal, formRefusal, bufferRefusal}
+use Rattle.reads.specs.Reads.{readCount, row, symbol, readsIn}
+use Rattle.reads.specs.Refusals.{lengthRefusal, formRefusal, bufferRefusal}
 use Rattle.cycle.specs.Served.{line, ServedRead, OpenedOnce}
 use Rattle.memory.specs.declared.State.{State}
 use Rattle.memory.specs.declared.Answer.{Answer}

@@ -18,8 +18,9 @@ use Rattle.memory.specs.declared.Outcome.{Outcome}
 use Rattle.memory.specs.declared.Answer.{Answer}
 use Rattle.memory.specs.declared.Answer.the-variants.{FullRows, Served}
 use Rattle.layout.specs.Shape.{storeSize, generationSize, CellOf, cellAt}
-use Rattle.cycle.specs.Reads.{readCount, row, group, symbol}
-use Rattle.cycle.specs.Cycle.{listRefusal, xorOfCells}
+use Rattle.reads.specs.Reads.{readCount, row, group, symbol}
+use Rattle.reads.specs.Refusals.{listRefusal}
+use Rattle.cycle.specs.Cycle.{xorOfCells}
 use Rattle.cycle.specs.Served.{line}
 use Rattle.memory.specs.State.{isFull, fullRows, Sound}
 use Rattle.memory.specs.Operations.{setUpOf, answerBy, packetsIn, packetIn, writeChecks, writeOutcome, writeStore, releaseChecks, releaseOutcome, cycleOutcome, cycleOutput, cycleSchedule}

@@ -11,7 +11,8 @@ use Rattle.cells.specs.Cell.{cell}
 use Rattle.simplex.specs.Code.{Packet}
 use Rattle.simplex.specs.Filling.{packetsOf, filled}
 use Rattle.layout.specs.declared.Shape.{Shape}
-use Rattle.cycle.specs.Cycle.{listRefusal, packetsOut, linesOut}
+use Rattle.reads.specs.Refusals.{listRefusal}
+use Rattle.cycle.specs.Cycle.{packetsOut, linesOut}
 use Rattle.memory.specs.declared.State.{State}
 use Rattle.memory.specs.declared.SetUp.{SetUp}
 use Rattle.memory.specs.declared.Outcome.{Outcome}

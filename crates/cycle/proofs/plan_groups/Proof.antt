@@ -16,9 +16,9 @@ use Rattle.layout.specs.Shape.{mostGroups}
 use Rattle.plan.specs.declared.Plan.{Plan}
 use Rattle.plan.specs.Finding.{planOf}
 use Rattle.plan.specs.Planned.{stored, planAnswer}
-use Rattle.cycle.specs.Reads.{countsOf}
-use Rattle.cycle.specs.Cycle.{groupRefusal}
-use Rattle.cycle.proofs.Grids.{grid-counts}
+use Rattle.reads.specs.Reads.{countsOf}
+use Rattle.reads.specs.Refusals.{groupRefusal}
+use Rattle.reads.proofs.Grids.{grid-counts}
 use Rattle.cycle.proofs.Groups.{columns, columns-none, columns-size, columns-more}
 use Rattle.cycle.proofs.Groups.{group-refused, group-accepted, group-plan, counts-small, plans-for}
 use Rattle.cycle.proofs.plan_groups.Statement.{statement}

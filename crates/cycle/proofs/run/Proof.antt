@@ -13,11 +13,11 @@ use Rattle.refusals.specs.declared.Verdict.{Verdict}
 use Rattle.refusals.specs.declared.Verdict.the-variants.{Accepted}
 use Rattle.refusals.specs.Verdict.{check, firstRefusal}
 use Rattle.refusals.proofs.Verdicts.{both}
-use Rattle.cycle.specs.Reads.{readCount}
-use Rattle.cycle.specs.Cycle.{readRefusal, groupRefusal, listRefusal}
-use Rattle.cycle.specs.Parts.{Named, Few}
-use Rattle.cycle.proofs.Judged.{not-whole, by-read, by-group, by-buffers}
-use Rattle.cycle.proofs.Accepted.{accepted-named, accepted-few}
+use Rattle.reads.specs.Reads.{readCount}
+use Rattle.reads.specs.Refusals.{readRefusal, groupRefusal, listRefusal}
+use Rattle.reads.specs.Parts.{Named, Few}
+use Rattle.reads.proofs.Judged.{not-whole, by-read, by-group, by-buffers}
+use Rattle.reads.proofs.Accepted.{accepted-named, accepted-few}
 use Rattle.cycle.proofs.run.Statement.{statement}
 use Rattle.cycle.proofs.run.Tie as tie
 

@@ -11,7 +11,7 @@ use Rattle.cells.proofs.Steps.{step-more}
 use Rattle.cells.proofs.Each.{length-each, each-none, each-more}
 use Rattle.simplex.specs.Shape.{mostSymbols}
 use Rattle.layout.proofs.Ranges.{few-banks}
-use Rattle.cycle.specs.Reads.{readCount}
+use Rattle.reads.specs.Reads.{readCount}
 use Rattle.cycle.specs.Cycle.{packetOf, lineOf}
 use Rattle.cycle.proofs.Serving.{room, NextPairs, none-served, Turn, turn}
 use Rattle.cycle.proofs.serve.Statement.{statement}

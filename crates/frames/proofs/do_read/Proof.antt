@@ -9,7 +9,7 @@ use lib.ListN.{length, take}
 use lib.Seq.{length-take-le}
 use denote.Ref.{now}
 use Rattle.cells.specs.Xor.{zeros}
-use Rattle.cycle.specs.Reads.{readCount}
+use Rattle.reads.specs.Reads.{readCount}
 use Rattle.memory.specs.declared.State.{State}
 use Rattle.frames.specs.Frames.{mostFrame, answerByte, said}
 use Rattle.frames.specs.Session.{mostStore, cycleOf}

@@ -1,0 +1,19 @@
+-- What holds of every list of reads.
+use mathlib.Core.Path.{_≡_}
+use mathlib.Core.Bool.{Bool}
+use mathlib.Core.List.{List, []}
+use Prim.Native.Nat.{ℕ, _<_}
+use lib.ListN.{length}
+use Rattle.refusals.specs.declared.Verdict.the-variants.{Accepted}
+use Rattle.simplex.specs.Shape.{mostSymbols}
+use Rattle.simplex.specs.Limit.{total}
+use Rattle.layout.specs.declared.Shape.{Shape}
+use Rattle.reads.specs.Reads.{readCount, symbol, countsOf, readsIn}
+use Rattle.reads.specs.Refusals.{listRefusal}
+
+-- counted: the reads of a group are as many as its counts total.
+-- empty: an empty list is accepted, with empty buffers.
+pub record TheReads : Type 0 where
+  pub counted : (reads : List ℕ) (x : ℕ) → ((n : ℕ) → n < readCount reads → symbol reads n < mostSymbols)
+      → length (readsIn reads x) ≡ total (countsOf reads x)
+  pub empty : (sh : Shape) (full : ℕ → Bool) → listRefusal sh full [] 0 0 ≡ Accepted
