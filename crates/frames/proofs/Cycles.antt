@@ -5,8 +5,8 @@ use mathlib.Core.List.{List, _∷_}
 use Prim.Native.Nat.{ℕ, zero, suc, _+_, _*_, _-_, _≤_, min}
 use native.Mathlib.Omega.{arith}
 use lib.ListN.{length, take, drop, length-replicate}
-use lib.Seq.{take-at}
-use borrow.Rule.Slice.PartMut.{putMid}
+use lib.Seq.{take-at, length-take-le}
+use borrow.Rule.Slice.PartMut.{putMid, same-len-mid}
 use borrow.Table.Elements.{take-le}
 use Rattle.cells.specs.Cell.{cell}
 use Rattle.cells.specs.Xor.{zeros}
@@ -16,11 +16,14 @@ use Rattle.memory.specs.declared.State.{State}
 use Rattle.memory.specs.declared.Outcome.{Outcome}
 use Rattle.memory.specs.Operations.{cycleOutcome, cycleOutput}
 use Rattle.memory.specs.History.{outcomeOf}
-use Rattle.frames.specs.Frames.{said}
-use Rattle.frames.specs.Session.{mostStore, memoryOf, packetsBy, cycleOf}
+use Rattle.frames.specs.declared.Session.{Session}
+use Rattle.frames.specs.declared.Session.the-variants.{Running}
+use Rattle.frames.specs.Frames.{answerByte, said}
+use Rattle.frames.specs.Session.{mostStore, mostOutput, memoryOf, packetsBy, operationDone, cycleOf}
+use Rattle.frames.specs.Steps.{Prints, Gives}
 use Rattle.frames.specs.Parts.{lentSize}
 use Rattle.frames.proofs.Rooms.{saidOf, same-said}
-use Rattle.frames.proofs.Done.{lends, five-read}
+use Rattle.frames.proofs.Done.{running, same-store, lends, five-read}
 
 -- ---- the buffers
 
@@ -34,10 +37,20 @@ front-zeros (suc n) (suc size) h = ap (λ (r : List ℕ). 0 ∷ r) (front-zeros 
 pub part-zeros : (n size : ℕ) → size ≤ n → take (2 + size - 2) (drop 2 (zeros (suc (suc n)))) ≡ zeros size
 part-zeros n size h = let e : 2 + size - 2 ≡ size = omega arith in rw e (front-zeros n size h)
 
--- what comes back in its place stands there
-pub part-back : (n size : ℕ) (packets : List ℕ) → size ≤ n → length packets ≡ length (take (2 + size - 2) (drop 2 (zeros (suc (suc n)))))
-    → cell (putMid 2 (2 + size - 2) (zeros (suc (suc n))) packets) 2 size ≡ packets
-part-back n size packets h e = take-at packets _ size (e ∙ ap length (part-zeros n size h) ∙ length-replicate size 0)
+-- with what comes back in its place the buffer is as long, and that stands there
+module _ (n size : ℕ) (packets : List ℕ) (e : length packets ≡ length (take (2 + size - 2) (drop 2 (zeros (suc (suc n)))))) where
+  pub part-long : length (putMid 2 (2 + size - 2) (zeros (suc (suc n))) packets) ≡ suc (suc n)
+  part-long = same-len-mid 2 (2 + size - 2) (zeros (suc (suc n))) packets e ∙ length-replicate (suc (suc n)) 0
+
+  pub part-back : size ≤ n → cell (putMid 2 (2 + size - 2) (zeros (suc (suc n))) packets) 2 size ≡ packets
+  part-back h = take-at packets _ size (e ∙ ap length (part-zeros n size h) ∙ length-replicate size 0)
+
+-- a buffer of that size has room for an answer with its packets, and the output for a line of them
+pub buffer-room : (len size : ℕ) → len ≡ 2 + mostStore → size ≤ mostStore → (4 ≤ len) × (2 + size ≤ len)
+buffer-room len size e h = (omega arith, omega arith)
+
+pub line-room : (n : ℕ) (l : List ℕ) (room : ℕ) → n ≤ length l → length l ≡ 2 + mostStore → room ≡ mostOutput → 2 * length (take n l) + 1 ≤ room
+line-room n l room h e f = omega (arith, length-take-le n l h)
 
 -- ---- frame 04
 
@@ -54,12 +67,18 @@ module _ (store reads : List ℕ) (st : State) (front size : ℕ) (fits : length
       (λ l. rw (l .front) (same-said st (memoryOf st store .store) reads size (omega (arith, take-le (storeSize (st .shape)) store)) room))
       (lends st store front fits e)
 
-  -- what a cycle on that part answers in bytes
-  pub cycles : (part lines : List ℕ) (o : Outcome) (packets : List ℕ) → part ≡ zeros size → lines ≡ zeros (readCount reads * 2)
-      → o ≡ cycleOutcome st (length (take front store)) reads (length part) (length lines) → packets ≡ cycleOutput st (take front store) reads part lines
-      → let memory = memoryOf st store in
-      let op = cycleOf reads (st .shape) in
-      said packets (o .answer) ≡ said (packetsBy memory op) (outcomeOf memory op .answer)
-  cycles part lines o packets zp zl done filled =
-      let did : o ≡ cycleOutcome st (length (take front store)) reads size (readCount reads * 2) = simp (zp, zl, length-replicate) at done in
-      rw (did, filled, zp, zl) (simp length-replicate (simp length-replicate at same-cycle))
+  -- what a cycle on that part answers in bytes, and what a step that prints it gives
+  module _ (part lines : List ℕ) (o : Outcome) (packets : List ℕ) (zp : part ≡ zeros size) (zl : lines ≡ zeros (readCount reads * 2))
+      (done : o ≡ cycleOutcome st (length (take front store)) reads (length part) (length lines)) (filled : packets ≡ cycleOutput st (take front store) reads part lines) where
+    cycles : let memory = memoryOf st store in
+        let op = cycleOf reads (st .shape) in
+        said packets (o .answer) ≡ said (packetsBy memory op) (outcomeOf memory op .answer)
+    cycles =
+        let did : o ≡ cycleOutcome st (length (take front store)) reads size (readCount reads * 2) = simp (zp, zl, length-replicate) at done in
+        rw (did, filled, zp, zl) (simp length-replicate (simp length-replicate at same-cycle))
+
+    pub cycle-done : (session : Session) (bytes out : List ℕ) (len : ℕ) (left : List ℕ) → session ≡ Running st → bytes ≡ answerByte 4 ∷ said packets (o .answer)
+        → Prints bytes out len left
+        → Gives (operationDone session store 4 (cycleOf reads)) out (record { session = Running (o .state); len = len }) store left
+    cycle-done session bytes out len left is spoken printed =
+        running session store 4 (cycleOf reads) st o store out len left is (rw done) (same-store st store) (rw (spoken, cycles) at printed)

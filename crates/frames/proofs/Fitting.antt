@@ -18,6 +18,7 @@ use Rattle.layout.proofs.Ranges.{range-words, all-banks}
 use Rattle.reads.specs.Reads.{readCount}
 use Rattle.reads.specs.Refusals.{listRefusal}
 use Rattle.memory.specs.declared.State.{State}
+use Rattle.memory.specs.declared.Outcome.{Outcome}
 use Rattle.memory.specs.declared.Answer.{Answer}
 use Rattle.memory.specs.declared.Answer.the-variants.{Served}
 use Rattle.memory.specs.State.{isFull, fullRows, sound, rowToggled}
@@ -89,12 +90,14 @@ fits-write st size row len = fits-by _ _ (near-write st size row len) (λ e. few
 pub fits-release : (st : State) (row : ℕ) → Fits (releaseOutcome st row .answer)
 fits-release st row = fits-by _ _ (near-release st row) (λ e. few-full st row (released-facts st row e .state))
 
-pub fits-cycle : (st : State) (size : ℕ) (reads : List ℕ) (out schedule : ℕ) → length reads < mostFrame → Fits (cycleOutcome st size reads out schedule .answer)
+pub fits-cycle : (st : State) (size : ℕ) (reads : List ℕ) (out schedule : ℕ) (o : Outcome) → length reads < mostFrame
+    → o ≡ cycleOutcome st size reads out schedule → Fits (o .answer)
 unfolding cycleRefusal listRefusal
-fits-cycle st size reads out schedule h =
+fits-cycle st size reads out schedule o h e =
     let few : readCount reads ≤ 65536 = omega arith in
-    near-then (storeRefusal st size) _ (search near)
-    (λ e. let groups : st .shape .m ≤ 65536 = omega (arith, sound-words st (store-facts st size e .0) .ranges .groups) in search near depth 9)
+    rw e
+    (near-then (storeRefusal st size) _ (search near)
+    (λ f. let groups : st .shape .m ≤ 65536 = omega (arith, sound-words st (store-facts st size f .0) .ranges .groups) in search near depth 9))
 
 -- ---- the answer of a set-up
 

@@ -4,7 +4,7 @@ use mathlib.Core.List.{List, _∷_}
 use Prim.Native.Nat.{ℕ, _+_, _-_, _*_, _/_, _≤_}
 use native.Mathlib.Omega.{arith}
 use borrow.Author.Needs.{needs}
-use borrow.Rule.Slice.PartMut.{putMid, same-len-mid}
+use borrow.Rule.Slice.PartMut.{putMid}
 use lib.ListN.{length, take}
 use lib.Seq.{length-take-le}
 use denote.Ref.{now}
@@ -14,8 +14,8 @@ use Rattle.memory.specs.declared.State.{State}
 use Rattle.frames.specs.Frames.{mostFrame, answerByte, said}
 use Rattle.frames.specs.Session.{mostStore, cycleOf}
 use Rattle.frames.proofs.Fitting.{fits-cycle}
-use Rattle.frames.proofs.Done.{fresh, running, same-store}
-use Rattle.frames.proofs.Cycles.{front-zeros, part-zeros, part-back, cycles}
+use Rattle.frames.proofs.Done.{fresh}
+use Rattle.frames.proofs.Cycles.{front-zeros, part-zeros, part-long, part-back, buffer-room, line-room, cycle-done}
 use Rattle.frames.proofs.do_read.Statement.{statement}
 use Rattle.frames.proofs.do_read.Tie as tie
 
@@ -26,9 +26,12 @@ St c = c .before .before .before .before .before .before
 abbrev Memory : tie.After-packets-size → State
 Memory c = c .before .before .session .given .0 .0
 
--- the buffer has room for them, and the store has the part that is lent
+-- the buffer has room for them, the schedule for their lines, and the store has the part that is lent
 room : (c : tie.After-packets-size) → c .packets-size .result ≤ mostStore
 room c = omega (arith, c .packets-size .ensures)
+
+few : (c : tie.After-packets-size) → readCount (now (St c .args .reads)) * 2 ≤ mostFrame / 3 * 2
+few c = omega (arith, St c .pre .0)
 
 part : (c : tie.After-lent-size) → c .lent-size .result ≤ length (now (St (c .before) .args .store))
 part c = omega (arith, c .lent-size .ensures, St (c .before) .pre .1)
@@ -42,7 +45,7 @@ Packets c = c .before .read-cycle .last .1 .1 .1 .0
 
 -- it is as long as it was, and `say` finds them in it
 as-long : (c : tie.After-bytes2) → length (putMid 2 (2 + Sized c .packets-size .result - 2) (zeros (2 + mostStore)) (Packets c)) ≡ 2 + mostStore
-as-long c = same-len-mid 2 (2 + Sized c .packets-size .result - 2) (zeros (2 + mostStore)) (Packets c) (c .bytes2 .given)
+as-long c = part-long mostStore (Sized c .packets-size .result) (Packets c) (c .bytes2 .given)
 
 spoken : (c : tie.After-say)
     → let b = c .before .before .before in
@@ -51,7 +54,7 @@ spoken c =
     let b = c .before .before .before in
     c .say .ensures .1
     ∙ ap (λ (packets : List ℕ). answerByte 4 ∷ said packets (b .before .read-cycle .result .answer))
-    (part-back mostStore (Sized b .packets-size .result) (Packets b) (room (Sized b)) (b .bytes2 .given))
+    (part-back mostStore (Sized b .packets-size .result) (Packets b) (b .bytes2 .given) (room (Sized b)))
 
 enum-known-session : tie.Need-enum-known-session
 enum-known-session c = search needs
@@ -92,10 +95,10 @@ mul-schedule : tie.Need-mul-schedule
 mul-schedule c = search needs
 
 array-borrow-prefix-schedule : tie.Need-array-borrow-prefix-schedule
-array-borrow-prefix-schedule c = search needs
+array-borrow-prefix-schedule c = few (c .before .before .before)
 
 slice-aggregate-read-cycle-2 : tie.Need-slice-aggregate-read-cycle-2
-slice-aggregate-read-cycle-2 c = sym (length-take-le _ _ (omega arith))
+slice-aggregate-read-cycle-2 c = sym (length-take-le _ (zeros (mostFrame / 3 * 2)) (few (c .before .before .before .before)))
 
 read-cycle-requires : tie.Need-read-cycle-requires
 read-cycle-requires c κs = search needs
@@ -106,19 +109,19 @@ slice-aggregate-say c = sym (as-long (c .before .before))
 say-requires : tie.Need-say-requires
 say-requires c κs =
     let b = c .before .before in
-    let fits = fits-cycle _ _ _ _ _ (St (Sized b) .pre .0) in
-    (rw (b .before .read-cycle .ensures .0) fits, omega (arith, as-long b), omega (arith, as-long b, room (Sized b)))
+    let r = buffer-room _ _ (as-long b) (room (Sized b)) in
+    (fits-cycle _ _ _ _ _ _ (St (Sized b) .pre .0) (b .before .read-cycle .ensures .0), r .0, r .1)
 
 array-share-prefix-bytes : tie.Need-array-share-prefix-bytes
-array-share-prefix-bytes c = search needs
+array-share-prefix-bytes c = c .before .say .ensures .0
 
 slice-aggregate-print-line : tie.Need-slice-aggregate-print-line
 slice-aggregate-print-line c = sym (length-take-le _ _ (c .before .before .say .ensures .0))
 
 print-line-requires : tie.Need-print-line-requires
 print-line-requires c κs =
-    let s = c .before .before .before .say in
-    omega (arith, length-take-le (s .result) (s .last .1 .1 .0) (s .ensures .0))
+    let b = c .before .before in
+    line-room _ _ _ (b .before .say .ensures .0) (b .bytes4 .given) (c .print-line-arg .given .0 .1)
 
 returns-2 : tie.Need-returns-2
 returns-2 c =
@@ -127,12 +130,10 @@ returns-2 c =
     let l = r .before .before .before .before in
     let z = l .before in
     let a = St z .args in
-    let said = cycles (now (a .store)) (now (a .reads)) (Memory z) _ _ (St z .pre .1) (l .lent-size .ensures) (z .packets-size .ensures) _ _ _ _
-    (part-zeros mostStore (z .packets-size .result) (room z)) (front-zeros (mostFrame / 3 * 2) (readCount (now (a .reads)) * 2) (omega (arith, St z .pre .0)))
-    (r .read-cycle .ensures .0) (r .read-cycle .ensures .1 .0) in
-    running (a .session) (now (a .store)) 4 (cycleOf (now (a .reads))) _ (r .read-cycle .result) _ (now (a .out)) _ _ (z .before .before .session .given .1)
-    (rw (r .read-cycle .ensures .0))
-    (same-store (Memory z) (now (a .store))) (rw (spoken s, said) at (c .before .print-line .ensures))
+    cycle-done (now (a .store)) (now (a .reads)) (Memory z) _ _ (St z .pre .1) (l .lent-size .ensures) (z .packets-size .ensures) _ _ _ _
+    (part-zeros mostStore (z .packets-size .result) (room z)) (front-zeros (mostFrame / 3 * 2) (readCount (now (a .reads)) * 2) (few z))
+    (r .read-cycle .ensures .0) (r .read-cycle .ensures .1 .0) (a .session) _ (now (a .out)) _ _ (z .before .before .session .given .1) (spoken s)
+    (c .before .print-line .ensures)
 
 pub do-read-spec : {M : Type 1} → statement M
 do-read-spec =
