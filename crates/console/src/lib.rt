@@ -1,15 +1,15 @@
-// A session over standard input and output. What a line does and answers is said and proved in `frames`; here each line of a text is read, once and
+// A session over standard input and output. What a line does and answers is said and proved in `steps`; here each line of a text is read, once and
 // in order, and its answer is written.
 ghost use mathlib.Core.Path.{_≡_};
 ghost use lib.ListN.{length, take};
-ghost use Rattle.frames.specs.Session.{mostText, textDone};
+ghost use Rattle.steps.specs.Session.{mostText, textDone};
 use frames::MOST_OUTPUT;
 use frames::MOST_STORE;
-use frames::MOST_TEXT;
-use frames::Reply;
-use frames::Session;
 use libc::STDIN_FILENO;
 use libc::STDOUT_FILENO;
+use steps::MOST_TEXT;
+use steps::Reply;
+use steps::Session;
 
 // The part of a text that a session reads.
 fn cut(text: &[u8]) -> &[u8]
@@ -33,7 +33,7 @@ pub fn answer(text: &[u8], begun: Session, store: &mut [u8; MOST_STORE]) -> Repl
     let mut len = 0;
     let mut at = 0;
     while at < read.len() {
-        let next = frames::answer_next(read, at, session, store, &mut out);
+        let next = steps::answer_next(read, at, session, store, &mut out);
         let reply = next.reply;
         let line = reply.len;
         io::write_all(STDOUT_FILENO, &out[..line]);

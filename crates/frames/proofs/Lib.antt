@@ -1,10 +1,3 @@
--- The proofs of the crate: sizes that fit, frames, sessions and what they keep.
-pub mod Fitting
-pub mod Lesser
-pub mod Rooms
-pub mod Done
-pub mod Cycles
+-- The proofs of the crate: lines that are frames, and printed lines.
 pub mod Framed
 pub mod Printing
-pub mod Kept
-pub mod Sessions

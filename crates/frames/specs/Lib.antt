@@ -1,7 +1,3 @@
--- The definitions of the crate: frames and sessions.
+-- The definitions of the crate: frames, and answers as lines.
 pub mod Frames
-pub mod Session
-pub mod Steps
-pub mod Parts
-pub mod Past
-pub mod Laws
+pub mod Printing

@@ -9,8 +9,8 @@ use lib.ListN.{length, drop, length-take}
 use lib.Seq.{length-take-le}
 use denote.Ref.{now}
 use Rattle.lines.specs.Lines.{linesOf}
-use Rattle.frames.specs.Session.{mostText, mostOutput, linesDone}
-use Rattle.frames.proofs.Sessions.{Ahead, at-first, at-last, and-on, turn, further, same-room}
+use Rattle.steps.specs.Session.{mostText, mostOutput, linesDone}
+use Rattle.steps.proofs.Sessions.{Ahead, at-first, at-last, and-on, turn, further, same-room}
 use Rattle.console.proofs.answer.Statement.{statement}
 use Rattle.console.proofs.answer.Tie as tie
 

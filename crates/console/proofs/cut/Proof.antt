@@ -4,7 +4,7 @@ use native.Mathlib.Omega.{arith}
 use borrow.Author.Needs.{needs}
 use lib.Seq.{take-all, length-take-le}
 use denote.Ref.{now}
-use Rattle.frames.specs.Session.{mostText}
+use Rattle.steps.specs.Session.{mostText}
 use Rattle.console.proofs.cut.Statement.{statement}
 use Rattle.console.proofs.cut.Tie as tie
 
