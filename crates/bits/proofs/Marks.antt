@@ -53,6 +53,9 @@ none-marked set n e i l =
     ap (bit set) (sym at) ∙ sym (bit-shr set n (i - n)) ∙ ap (λ (x : ℕ). bit x (i - n)) (eqb-true (set / 2 ^ n) 0 e) ∙ bit-zero (i - n) in
     ap (λ (d : ℕ). eqb d 1) off
 
+pub unmarked : (i : ℕ) → marked 0 i ≡ false
+unmarked i = ap (λ (d : ℕ). eqb d 1) (bit-zero i)
+
 -- a number whose bits are all 0
 no-bits : (n : ℕ) → ((i : ℕ) → bit n i ≡ 0) → n ≡ 0
 no-bits =
@@ -136,6 +139,9 @@ many-without f g (suc n) more =
 
 cond-digit : (d : ℕ) → d < 2 → cond (eqb d 1) 1 0 ≡ d
 cond-digit = digit (λ (d : ℕ). cond (eqb d 1) 1 0 ≡ d) refl refl
+
+pub bit-mark : (set i : ℕ) → bit set i ≡ cond (marked set i) 1 0
+bit-mark set i = sym (cond-digit (bit set i) (low-lt (set / 2 ^ i)))
 
 ones-digit : (d : ℕ) → d < 2 → ones d ≡ d
 unfolding ones

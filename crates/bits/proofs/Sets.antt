@@ -54,8 +54,12 @@ marked-set test (suc n) i l =
     (λ (b : i < n). alike (bit-below (setOf test n) (one (test n)) n i b) ∙ marked-set test n i b)
     (eq-or-lt-of-le (le-of-suc-le-suc l)))
 
+-- a word below 2^n marks nothing from n on
+pub lt-none : (set n : ℕ) → set < 2 ^ n → (i : ℕ) → n ≤ i → marked set i ≡ false
+lt-none set n h = none-marked set n (eq-eqb _ _ (div-eq-of-lt h))
+
 pub marked-past : (test : ℕ → Bool) (n i : ℕ) → n ≤ i → marked (setOf test n) i ≡ false
-marked-past test n = none-marked (setOf test n) n (eq-eqb _ _ (div-eq-of-lt (set-lt test n)))
+marked-past test n = lt-none (setOf test n) n (set-lt test n)
 
 pub same-set : (f g : ℕ → Bool) (n : ℕ) → ((i : ℕ) → i < n → f i ≡ g i) → setOf f n ≡ setOf g n
 unfolding setOf
@@ -133,7 +137,7 @@ below-set w n h =
     go i false e =
         let l = ltb-false i n e in
         let small : 2 ^ w - 1 < 2 ^ w = omega (arith, pow-pos w) in
-        none-marked (2 ^ w - 1) w (eq-eqb _ _ (div-eq-of-lt small)) (w - n + i) (omega arith)
+        lt-none (2 ^ w - 1) w small (w - n + i) (omega arith)
 
 pub first-set : (k n : ℕ) → First (marked n) k (trailingZeros k n)
 unfolding trailingZeros

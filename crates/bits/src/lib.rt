@@ -59,6 +59,7 @@ pub fn below(n: usize) -> u64
     requires { ⌜ (1 ≤ n) × (n ≤ 64) ⌝ }
     ensures { λ r. ⌜ r ≡ setOf (λ i. ltb i n) 64 ⌝ }
 {
+    // With n = 0 the shift would be by a word's whole width.
     u64::MAX >> (MARKS - n)
 }
 
