@@ -22,6 +22,10 @@ SMALL_ROWS = [[0x01, 0x02, 0x04, 0x08], [0x10, 0x20, 0x40, 0x80]]
 SMALL_CYCLES = [(5, 0, "0001000101010001", 9, 9), (6, 0, "0001000101010001", 9, 9), (13, 0, "0001000101010001", 9, 9), (15, 2, "000100010101000102", 9, 9),
                 (12, 1, "000100010101000101", 9, 9), (16, 0, "000100010101", 3, 4), (16, 0, "000100010101", 2, 5)]
 
+# The memory of six rows: which are full, and in a broken state; and the row sets that are released, each with the rows that are full before.
+SIX_ROWS, SIX_FULL, SIX_BROKEN = 6, {0, 1, 3, 5}, {0, 1, 3, 5, 6}
+SIX_SETS = [(SIX_BROKEN, {2, 6}), (SIX_FULL, {1, 2, 6, 63}), (SIX_FULL, {0, 2, 4, 5}), (SIX_FULL, set()), (SIX_FULL, {0, 3}), (SIX_FULL - {0, 3}, {1, 5})]
+
 
 def refusal(K, counts):
     if K not in EVERY_K:
@@ -158,7 +162,21 @@ def is_small(lines):
     return lines == small_lines(pairs.hex()) and serves(2, 0, a, b) and serves(2, 1, c, d) and none_twice([n for n in pairs if n])
 
 
-# The lines that are wrong, of all that is printed: the requests, the counts of each K, the cycles of each K, and the small memory.
+# A release of a row set: all its rows are emptied, or none.
+def set_lines(full, rows):
+    past, empty = [r for r in sorted(rows) if r >= SIX_ROWS], [r for r in sorted(rows) if r not in full]
+    if any(r >= SIX_ROWS for r in full):
+        answer, after = "refused 5, place 0", full
+    elif past:
+        answer, after = f"refused 7, place {past[0]}", full
+    elif empty:
+        answer, after = f"refused 9, place {empty[0]}", full
+    else:
+        answer, after = f"full rows {len(full - rows)}", full - rows
+    return [answer, f"full {sum(2 ** r for r in after)}"]
+
+
+# The lines that are wrong, of all that is printed: the requests, the counts of each K, the cycles of each K, the small memory, and the row sets.
 def wrong_lines(requests, lines):
     tallies = [tally(K) for K in EVERY_K]
     end = len(requests) + len(tallies) + K_LINES * len(tallies)
@@ -168,7 +186,9 @@ def wrong_lines(requests, lines):
         return wrong + ["the requests, the counts or what comes after them are not all there"]
     for n, K in enumerate(EVERY_K):
         wrong += wrong_cycles(K, cycles[K_LINES * n:K_LINES * (n + 1)])
-    return wrong + ([] if is_small(lines[end:]) else ["the small memory"])
+    sets = ["row sets"] + [line for full, rows in SIX_SETS for line in set_lines(full, rows)]
+    wrong += [] if is_small(lines[end:-len(sets)]) else ["the small memory"]
+    return wrong + ([] if lines[-len(sets):] == sets else ["the row sets"])
 
 
 def main():

@@ -1,7 +1,7 @@
 -- What a memory holds and answers after any history: whatever is asked of it, it stays as the history says.
 use mathlib.Core.Path.{_≡_, refl, sym, ap, _∙_}
 use mathlib.Core.Logic.{_≢_}
-use mathlib.Core.Bool.{Bool, true, false, cond, false≢true}
+use mathlib.Core.Bool.{Bool, true, false, cond, _&&_, not, false≢true}
 use mathlib.Core.List.{List, [], _∷_}
 use Prim.Native.Nat.{ℕ, _+_, _*_, _<_, zero-le}
 use native.Mathlib.Omega.{arith}
@@ -10,10 +10,11 @@ use borrow.Author.Tests.{eq-eqb, ne-eqb}
 use lib.Dec.{eqb}
 use lib.ListN.{length}
 use Rattle.bits.specs.Marks.{marked, howMany}
-use Rattle.bits.proofs.Marks.{none-marked, same-many, none-more}
+use Rattle.bits.proofs.Marks.{unmarked, same-many, none-more}
 use Rattle.refusals.specs.declared.Verdict.{Verdict}
 use Rattle.refusals.specs.declared.Verdict.the-variants.{Accepted, Refused}
 use Rattle.refusals.specs.Verdict.{ifRefused}
+use Rattle.refusals.proofs.Verdicts.{both}
 use Rattle.cells.specs.Cell.{cell}
 use Rattle.simplex.specs.Code.{bankCell}
 use Rattle.simplex.proofs.Filling.{length-packets}
@@ -27,14 +28,15 @@ use Rattle.memory.specs.declared.State.{State}
 use Rattle.memory.specs.declared.Outcome.{Outcome}
 use Rattle.memory.specs.declared.Answer.the-variants.{FullRows, Served}
 use Rattle.layout.specs.Shape.{shapeRefusal, storeSize, generationSize, CellOf, cellAt}
-use Rattle.memory.specs.State.{isFull, fullRows, empty, rowToggled, Sound}
-use Rattle.memory.specs.Operations.{answerBy, outcomeBy, packetsIn, packetIn, rowWritten, writeRefusal, releaseRefusal, cycleRefusal, cycleSchedule}
-use Rattle.memory.specs.History.{Operation, write, release, read, History, Memory, outcomeOf, storeAfter, run}
+use Rattle.memory.specs.State.{isFull, fullRows, empty, rowToggled, rowsEmptied, Sound}
+use Rattle.memory.specs.Operations.{answerBy, outcomeBy, packetsIn, packetIn, rowWritten, writeRefusal, releaseRefusal, releaseSetRefusal, cycleRefusal, cycleSchedule}
+use Rattle.memory.specs.History.{Operation, write, release, releaseSet, read, History, Memory, outcomeOf, storeAfter, run}
 use Rattle.memory.specs.History.{verdictIn, toldBy, fullBy, writtenBy, fullIn, lastWritten, filledBy, emptiedBy, inAll, Returned, Remembers, AfterAnyHistory}
 use Rattle.layout.proofs.Ranges.{range-words}
 use Rattle.memory.proofs.States.{words-sound}
 use Rattle.memory.proofs.Accepted.{Writable, Releasable, written-facts, released-facts}
 use Rattle.memory.proofs.Toggling.{toggled-sound, row-filled, row-emptied}
+use Rattle.memory.proofs.Emptying.{rows-alike, set-released-facts, emptied-rows, emptied-sound, emptied-count}
 use Rattle.memory.proofs.Writing.{packet-in, packets-in-sized, row-written, other-rows}
 use Rattle.memory.proofs.Cycles.{serves-all, facts, coded-packet}
 
@@ -145,6 +147,37 @@ module _ (st : State) (s : List ℕ) (full : ℕ → Bool) (last : ℕ → List 
       accepted st (release row) (λ rows. refl) (release-keeps w) (omega (arith, row-emptied st row (w .below) (w .full) .count))
   release-by (Refused number place) e = record { keeps = kept; answer = refl; count = omega arith }
 
+-- ---- a release of a row set
+
+module _ (st : State) (s : List ℕ) (full : ℕ → Bool) (last : ℕ → List ℕ) (kept : Held (st .shape) full last st s) (set : ℕ) where
+  set-judged : releaseSetRefusal st set ≡ verdictIn (st .shape) full (releaseSet set)
+  unfolding releaseSetRefusal
+  set-judged = rw (words-sound st (kept .sound), rows-alike 9 set (isFull st) full (λ r _. kept .rows r .mark))
+
+  set-keeps : Held (st .shape) (fullBy (releaseSet set) full) (writtenBy (releaseSet set) last) (rowsEmptied st set) s
+  set-keeps = record {
+    shape = refl;
+    sound = emptied-sound st set (kept .sound);
+    size = kept .size;
+    rows = λ r. left r (kept .rows r) (not (marked set r)) (emptied-rows st set (kept .sound) r);
+  }
+    where
+      -- a row that is full afterwards was so before
+      left : (r : ℕ) → Row (st .shape) st s r (full r) (last r) → (t : Bool) → isFull (rowsEmptied st set) r ≡ (isFull st r && t)
+          → Row (st .shape) (rowsEmptied st set) s r (full r && t) (last r)
+      left r w t e = record {
+        mark = e ∙ ap (λ (f : Bool). f && t) (w .mark);
+        whole = λ f. w .whole (both (full r) t .0 f .0);
+        cells = λ x b c f. w .cells x b c (both (full r) t .0 f .0);
+      }
+
+  set-by : (v : Verdict) → releaseSetRefusal st set ≡ v
+      → Done (st .shape) (ifRefused full (fullBy (releaseSet set) full) v) (ifRefused last (writtenBy (releaseSet set) last) v) v st (releaseSet set)
+      (outcomeBy st (rowsEmptied st set) v) s
+  set-by Accepted e =
+      accepted st (releaseSet set) (λ rows. refl) set-keeps (emptied-count st set (kept .sound) (set-released-facts st set e .full) ∙ omega arith)
+  set-by (Refused number place) e = record { keeps = kept; answer = refl; count = omega arith }
+
 -- ---- a read cycle
 
 module _ (st : State) (s : List ℕ) (full : ℕ → Bool) (last : ℕ → List ℕ) (kept : Held (st .shape) full last st s) (reads out schedule : List ℕ) where
@@ -201,6 +234,9 @@ by-operation history memory k (write row generation) =
 by-operation history memory k (release row) =
     let judged = release-judged (memory .state) (memory .store) _ _ k row in
     rw judged (release-by (memory .state) (memory .store) _ _ k row _ judged)
+by-operation history memory k (releaseSet set) =
+    let judged = set-judged (memory .state) (memory .store) _ _ k set in
+    rw judged (set-by (memory .state) (memory .store) _ _ k set _ judged)
 by-operation history memory k (read reads out schedule) =
     rw (read-judged (memory .state) (memory .store) _ _ k reads out schedule) (read-by (memory .state) (memory .store) _ _ k reads out schedule _)
 
@@ -215,9 +251,6 @@ returns sh history memory k reads out schedule =
     rw (← k .shape) (returned (memory .state) (memory .store) _ _ (rw (← k .shape) at k) reads out schedule)
 
 -- ---- every history
-
-unmarked : (r : ℕ) → marked 0 r ≡ false
-unmarked r = none-marked 0 0 refl r zero-le
 
 set-up : (sh : Shape) → shapeRefusal sh ≡ Accepted → (s : List ℕ) → length s ≡ storeSize sh → Agrees sh [] (record { state = empty sh; store = s })
 set-up sh e s size = record {

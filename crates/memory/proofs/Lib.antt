@@ -2,6 +2,8 @@
 pub mod States
 pub mod Accepted
 pub mod Toggling
+pub mod Emptying
+pub mod Singly
 pub mod Writing
 pub mod Groups
 pub mod Cycles

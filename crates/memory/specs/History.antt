@@ -1,11 +1,11 @@
 -- Histories: what a memory holds after any operations, each with the state and the store that the one before left.
 use mathlib.Core.Path.{_≡_}
-use mathlib.Core.Bool.{Bool, true, false, cond}
+use mathlib.Core.Bool.{Bool, true, false, cond, _&&_, not}
 use mathlib.Core.List.{List, [], _∷_}
 use Prim.Native.Nat.{ℕ, _+_, _*_, _<_}
 use lib.Dec.{eqb}
 use lib.ListN.{length}
-use Rattle.bits.specs.Marks.{howMany}
+use Rattle.bits.specs.Marks.{marked, howMany}
 use Rattle.refusals.specs.declared.Verdict.{Verdict}
 use Rattle.refusals.specs.declared.Verdict.the-variants.{Accepted}
 use Rattle.refusals.specs.Verdict.{ifRefused}
@@ -17,18 +17,19 @@ use Rattle.memory.specs.declared.State.{State}
 use Rattle.memory.specs.declared.Outcome.{Outcome}
 use Rattle.memory.specs.declared.Answer.{Answer}
 use Rattle.memory.specs.declared.Answer.the-variants.{FullRows, Served}
-use Rattle.layout.specs.Shape.{storeSize, generationSize, CellOf, cellAt}
+use Rattle.layout.specs.Shape.{mostRows, storeSize, generationSize, CellOf, cellAt}
 use Rattle.reads.specs.Reads.{readCount, row, group, symbol}
 use Rattle.reads.specs.Refusals.{listRefusal}
 use Rattle.cycle.specs.Cycle.{xorOfCells}
 use Rattle.cycle.specs.Served.{line}
 use Rattle.memory.specs.State.{isFull, fullRows, Sound}
-use Rattle.memory.specs.Operations.{setUpOf, answerBy, packetsIn, packetIn, writeChecks, writeOutcome, writeStore, releaseChecks, releaseOutcome, cycleOutcome, cycleOutput, cycleSchedule}
+use Rattle.memory.specs.Operations.{setUpOf, answerBy, packetsIn, packetIn, writeChecks, writeOutcome, writeStore, releaseChecks, releaseOutcome, releaseSetChecks, releaseSetOutcome, cycleOutcome, cycleOutput, cycleSchedule}
 
--- What may be asked of a memory: a write of a generation to a row, a release of a row, a read cycle with its list and its buffers.
+-- What may be asked of a memory: a write of a generation to a row, a release of a row or of a row set, a read cycle with its list and its buffers.
 pub data Operation : Type 0 where
   write : (row : ℕ) (generation : List ℕ) → Operation
   release : (row : ℕ) → Operation
+  releaseSet : (set : ℕ) → Operation
   read : (reads out schedule : List ℕ) → Operation
 
 -- The operations since set-up, the last one first.
@@ -45,11 +46,13 @@ pub record Memory : Type 0 where
 abbrev pub outcomeOf : Memory → Operation → Outcome
 outcomeOf memory (write row generation) = writeOutcome (memory .state) (length (memory .store)) row (length generation)
 outcomeOf memory (release row) = releaseOutcome (memory .state) row
+outcomeOf memory (releaseSet set) = releaseSetOutcome (memory .state) set
 outcomeOf memory (read reads out schedule) = cycleOutcome (memory .state) (length (memory .store)) reads (length out) (length schedule)
 
 abbrev pub storeAfter : Memory → Operation → List ℕ
 storeAfter memory (write row generation) = writeStore (memory .state) (memory .store) row generation
 storeAfter memory (release row) = memory .store
+storeAfter memory (releaseSet set) = memory .store
 storeAfter memory (read reads out schedule) = memory .store
 
 abbrev pub step : Memory → Operation → Memory
@@ -65,26 +68,30 @@ run new (operation ∷ history) = step (run new history) operation
 abbrev pub verdictIn : Shape → (full : ℕ → Bool) → Operation → Verdict
 verdictIn sh full (write row generation) = writeChecks sh full row (length generation)
 verdictIn sh full (release row) = releaseChecks sh full row
+verdictIn sh full (releaseSet set) = releaseSetChecks sh full set
 verdictIn sh full (read reads out schedule) = listRefusal sh full reads (length out) (length schedule)
 
 -- What an accepted operation tells, with this number of full rows.
 abbrev pub toldBy : Operation → ℕ → Answer
 toldBy (write row generation) rows = FullRows rows
 toldBy (release row) rows = FullRows rows
+toldBy (releaseSet set) rows = FullRows rows
 toldBy (read reads out schedule) rows = Served
 
 -- The full rows after an accepted operation, and what was then last written to each.
 abbrev pub fullBy : Operation → (ℕ → Bool) → ℕ → Bool
 fullBy (write row generation) full r = cond (eqb row r) true (full r)
 fullBy (release row) full r = cond (eqb row r) false (full r)
+fullBy (releaseSet set) full r = full r && not (marked set r)
 fullBy (read reads out schedule) full r = full r
 
 abbrev pub writtenBy : Operation → (ℕ → List ℕ) → ℕ → List ℕ
 writtenBy (write row generation) last r = cond (eqb row r) generation (last r)
 writtenBy (release row) last r = last r
+writtenBy (releaseSet set) last r = last r
 writtenBy (read reads out schedule) last r = last r
 
--- Row r is full: of the accepted writes and releases of it, the last was a write.
+-- Row r is full: of the accepted writes and releases of it, alone or in a set, the last was a write.
 abbrev pub fullIn : Shape → History → ℕ → Bool
 fullIn sh [] = λ r. false
 fullIn sh (operation ∷ history) = ifRefused (fullIn sh history) (fullBy operation (fullIn sh history)) (verdictIn sh (fullIn sh history) operation)
@@ -99,11 +106,13 @@ lastWritten sh (operation ∷ history) =
 abbrev pub filledBy : Operation → ℕ
 filledBy (write row generation) = 1
 filledBy (release row) = 0
+filledBy (releaseSet set) = 0
 filledBy (read reads out schedule) = 0
 
 abbrev pub emptiedBy : Operation → ℕ
 emptiedBy (write row generation) = 0
 emptiedBy (release row) = 1
+emptiedBy (releaseSet set) = howMany (marked set) mostRows
 emptiedBy (read reads out schedule) = 0
 
 -- The sum of this over the accepted operations of a history.
@@ -123,7 +132,8 @@ pub record Returned (sh : Shape) (memory : Memory) (reads out schedule : List �
       ≡ packetIn sh last (group reads n) (symbol reads n)
 
 -- shape, sound, size: the shape is that of set-up, the state is not broken, and the store has its length.
--- marks, count: the rows that are full are those of the history, and as many as accepted writes less accepted releases.
+-- marks, count: the rows that are full are those of the history, and as many as accepted writes have filled less those that accepted releases have
+-- emptied.
 -- cells, whole: every cell of a full row is what the code puts there for the generation last written, which has the right length.
 -- answers: the next operation is refused as the history says; accepted, a write or a release answers the number of rows that are full with it.
 -- returns: a read cycle that is served returns, in the order asked, the packet last written at each read's row, group and symbol; that row is full.

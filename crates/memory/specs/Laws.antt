@@ -1,19 +1,22 @@
 -- The laws of a memory, for any shape, state, store and generation.
 use mathlib.Core.Path.{_≡_}
 use mathlib.Core.Logic.{_≢_, _↔_}
-use mathlib.Core.Bool.{true, false}
-use mathlib.Core.List.{List, []}
-use Prim.Native.Nat.{ℕ, suc, _<_}
+use mathlib.Core.Bool.{Bool, true, false, cond, not}
+use mathlib.Core.List.{List, [], _∷_}
+use Prim.Native.Nat.{ℕ, suc, _+_, _^_, _<_}
+use lib.Dec.{eqb, leb}
 use lib.ListN.{length, getD}
-use Rattle.refusals.specs.declared.Verdict.the-variants.{Accepted}
+use Rattle.bits.specs.Bits.{bit}
+use Rattle.bits.specs.Marks.{marked, howMany}
+use Rattle.refusals.specs.declared.Verdict.the-variants.{Accepted, Refused as No}
 use Rattle.cells.specs.Cell.{Outside}
 use Rattle.simplex.specs.Code.{bankCell}
 use Rattle.layout.specs.declared.Shape.{Shape}
 use Rattle.memory.specs.declared.State.{State}
-use Rattle.memory.specs.declared.Answer.the-variants.{Refused}
-use Rattle.layout.specs.Shape.{CellOf, offset, cellAt}
+use Rattle.memory.specs.declared.Answer.the-variants.{FullRows, Refused}
+use Rattle.layout.specs.Shape.{mostRows, CellOf, offset, cellAt}
 use Rattle.memory.specs.State.{isFull, fullRows, sound, Sound}
-use Rattle.memory.specs.Operations.{packetsIn, packetIn, writeRefusal, writeOutcome, writeStore, releaseRefusal, releaseOutcome}
+use Rattle.memory.specs.Operations.{packetsIn, packetIn, writeRefusal, writeOutcome, writeStore, releaseRefusal, releaseOutcome, releaseSetRefusal, releaseSetOutcome}
 use Rattle.memory.specs.History.{Operation, Memory, outcomeOf, AfterAnyHistory}
 
 -- The byte i of the store lies in no cell of this row.
@@ -35,9 +38,47 @@ pub record OneMore (row : ℕ) (fewer more : State) : Type 0 where
   pub others : (r : ℕ) → r ≢ row → isFull more r ≡ isFull fewer r
   pub count : fullRows more ≡ suc (fullRows fewer)
 
+-- The rows of a set are full in the one state and empty in the other, and all else is the same.
+pub record Emptied (set : ℕ) (before after : State) : Type 0 where
+  pub shape : after .shape ≡ before .shape
+  pub full : (r : ℕ) → marked set r ≡ true → isFull before r ≡ true
+  pub empty : (r : ℕ) → marked set r ≡ true → isFull after r ≡ false
+  pub others : (r : ℕ) → marked set r ≡ false → isFull after r ≡ isFull before r
+  pub count : fullRows after + howMany (marked set) mostRows ≡ fullRows before
+
+-- Row r is the first of a set's rows that passes a test.
+pub record FirstRow (set : ℕ) (test : ℕ → Bool) (r : ℕ) : Type 0 where
+  pub row : r < mostRows
+  pub inSet : marked set r ≡ true
+  pub passes : test r ≡ true
+  pub before : (i : ℕ) → i < r → marked set i ≡ true → test i ≡ false
+
+-- None of them passes it.
+abbrev pub NoRow : (set : ℕ) → (test : ℕ → Bool) → Type 0
+NoRow set test = (r : ℕ) → r < mostRows → marked set r ≡ true → test r ≡ false
+
+-- How often row r stands in a list of rows.
+abbrev pub timesIn : (r : ℕ) → List ℕ → ℕ
+timesIn r [] = 0
+timesIn r (row ∷ rows) = cond (eqb row r) 1 0 + timesIn r rows
+
+-- A list names exactly the rows of a set, in whichever order: row r stands in it as often as bit r says, once or not at all.
+abbrev pub Names : (set : ℕ) → List ℕ → Type 0
+Names set rows = (r : ℕ) → timesIn r rows ≡ bit set r
+
+-- The rows of a list are released one by one: each release is accepted, and they lead from the one state to the other.
+abbrev pub ReleasedSingly : (before : State) → List ℕ → (after : State) → Type 0
+ReleasedSingly before [] after = before ≡ after
+ReleasedSingly before (row ∷ rows) after =
+    (releaseRefusal before row ≡ Accepted) × ReleasedSingly (releaseOutcome before row .state) rows after
+
 -- states: "not broken" in words. broken: any other state is refused with 5, whatever is asked.
 -- packets: packet i of group x stands where a generation with the packets of group 0 in symbol order, then group 1, and so on, has it.
 -- written: an accepted write makes its row full and sets the cells of that row alone. released: an accepted release makes a full row empty.
+-- setReleased: an accepted release of a row set empties its rows and no other. emptySet: the empty set is accepted, and nothing changes.
+-- seven, nine: it is refused with 7 at r just where r is its first row that is G or more; with 9 just where there is none, and r is its first empty row.
+-- singly: single releases of its rows, in whichever order, are each accepted and end in a state just where it is accepted and ends there.
+-- named: every set has a list of its rows, so that the law before is about something.
 -- histories: what a memory holds and answers after any operations.
 pub record TheMemory : Type 0 where
   pub states : (st : State) → (sound st ≡ true) ↔ Sound st
@@ -48,4 +89,14 @@ pub record TheMemory : Type 0 where
   pub written : (st : State) (s : List ℕ) (row : ℕ) (generation : List ℕ) → writeRefusal st (length s) row (length generation) ≡ Accepted
       → Written (st .shape) row generation s (writeStore st s row generation) × OneMore row st (writeOutcome st (length s) row (length generation) .state)
   pub released : (st : State) (row : ℕ) → releaseRefusal st row ≡ Accepted → OneMore row (releaseOutcome st row .state) st
+  pub setReleased : (st : State) (set : ℕ) → set < 2 ^ mostRows → releaseSetRefusal st set ≡ Accepted
+      → Emptied set st (releaseSetOutcome st set .state)
+  pub emptySet : (st : State) → Sound st → releaseSetOutcome st 0 ≡ record { state = st; answer = FullRows (fullRows st) }
+  pub seven : (st : State) (set r : ℕ) → Sound st
+      → (releaseSetRefusal st set ≡ No 7 r) ↔ FirstRow set (λ i. leb (st .shape .g) i) r
+  pub nine : (st : State) (set r : ℕ) → Sound st
+      → (releaseSetRefusal st set ≡ No 9 r) ↔ (NoRow set (λ i. leb (st .shape .g) i) × FirstRow set (λ i. not (isFull st i)) r)
+  pub singly : (st after : State) (set : ℕ) (rows : List ℕ) → Sound st → set < 2 ^ mostRows → Names set rows
+      → ReleasedSingly st rows after ↔ ((releaseSetRefusal st set ≡ Accepted) × (releaseSetOutcome st set .state ≡ after))
+  pub named : (set : ℕ) → (rows : List ℕ) × Names set rows
   pub histories : AfterAnyHistory

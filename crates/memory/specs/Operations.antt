@@ -1,12 +1,13 @@
--- Set-up, write, release and the read cycle: when each is refused, what it answers, and what state, store and buffers it leaves.
-use mathlib.Core.Bool.{Bool, not}
+-- Set-up, write, release of a row or of a row set, and the read cycle: when each is refused, what it answers, and what state, store and buffers it leaves.
+use mathlib.Core.Bool.{Bool, not, _||_}
 use mathlib.Core.List.{List}
 use Prim.Native.Nat.{ℕ, zero, suc, _+_, _*_}
 use lib.Dec.{eqb, ltb}
 use lib.ListN.{length}
+use Rattle.bits.specs.Marks.{marked}
 use Rattle.refusals.specs.declared.Verdict.{Verdict}
 use Rattle.refusals.specs.declared.Verdict.the-variants.{Accepted, Refused}
-use Rattle.refusals.specs.Verdict.{check, _then_, ifRefused}
+use Rattle.refusals.specs.Verdict.{check, _then_, ifRefused, firstRefusal}
 use Rattle.cells.specs.Cell.{cell}
 use Rattle.simplex.specs.Code.{Packet}
 use Rattle.simplex.specs.Filling.{packetsOf, filled}
@@ -18,8 +19,8 @@ use Rattle.memory.specs.declared.SetUp.{SetUp}
 use Rattle.memory.specs.declared.Outcome.{Outcome}
 use Rattle.memory.specs.declared.Answer.{Answer}
 use Rattle.memory.specs.declared.Answer.the-variants.{FullRows, Served, Refused as NotDone}
-use Rattle.layout.specs.Shape.{shapeRefusal, banks, storeSize, generationSize, offset}
-use Rattle.memory.specs.State.{isFull, fullRows, sound, empty, zeroState, rowToggled}
+use Rattle.layout.specs.Shape.{mostRows, shapeRefusal, banks, storeSize, generationSize, offset}
+use Rattle.memory.specs.State.{isFull, fullRows, sound, empty, zeroState, rowToggled, rowsEmptied}
 
 -- What set-up gives: a memory of that shape with every row empty, or a refusal and a state of zeros.
 abbrev pub setUpOf : Shape → SetUp
@@ -88,6 +89,23 @@ releaseRefusal st row = check 5 0 (sound st) then releaseChecks (st .shape) (isF
 
 abbrev pub releaseOutcome : State → ℕ → Outcome
 releaseOutcome st row = outcomeBy st (rowToggled st row) (releaseRefusal st row)
+
+-- ---- release of a row set (02: clearing several rows): row r's mark is bit r of the set. Marks from the 64th on, which no word has, count for nothing.
+
+-- Accepted where every row of a set passes a test; else refused with this number, and the first row that doesn't as place.
+unfoldable pub eachRow : (number set : ℕ) → (test : ℕ → Bool) → Verdict
+eachRow number set test = firstRefusal (λ r. check number r (not (marked set r) || test r)) mostRows
+
+-- 7, a marked row is G or more. Then 9, a marked row is empty.
+abbrev pub releaseSetChecks : Shape → (full : ℕ → Bool) → (set : ℕ) → Verdict
+releaseSetChecks sh full set = eachRow 7 set (λ r. ltb r (sh .g)) then eachRow 9 set full
+
+-- 5, the state is broken; then 7, 9.
+unfoldable pub releaseSetRefusal : State → (set : ℕ) → Verdict
+releaseSetRefusal st set = check 5 0 (sound st) then releaseSetChecks (st .shape) (isFull st) set
+
+abbrev pub releaseSetOutcome : State → (set : ℕ) → Outcome
+releaseSetOutcome st set = outcomeBy st (rowsEmptied st set) (releaseSetRefusal st set)
 
 -- ---- read cycle
 

@@ -1,12 +1,13 @@
 -- The state of a memory: its shape, and which rows are full.
 use mathlib.Core.Path.{_≡_}
-use mathlib.Core.Bool.{Bool, false, _&&_}
+use mathlib.Core.Bool.{Bool, false, _&&_, not}
 use Prim.Native.Nat.{ℕ, _≤_}
 use Rattle.bits.specs.Marks.{marked, toggled, noneFrom, howMany}
+use Rattle.bits.specs.Sets.{setOf}
 use Rattle.refusals.specs.Verdict.{passed}
 use Rattle.layout.specs.declared.Shape.{Shape}
 use Rattle.memory.specs.declared.State.{State}
-use Rattle.layout.specs.Shape.{shapeRefusal, InRange}
+use Rattle.layout.specs.Shape.{mostRows, shapeRefusal, InRange}
 
 -- Whether row r is full.
 abbrev pub isFull : State → ℕ → Bool
@@ -39,3 +40,7 @@ withFull st full = record { shape = st .shape; full = full }
 -- The state with row r's mark toggled: an empty row becomes full, a full one empty.
 abbrev pub rowToggled : State → ℕ → State
 rowToggled st r = withFull st (toggled (st .full) r)
+
+-- The state with every row of a set empty, and every other row as it was.
+abbrev pub rowsEmptied : State → (set : ℕ) → State
+rowsEmptied st set = withFull st (setOf (λ r. isFull st r && not (marked set r)) mostRows)

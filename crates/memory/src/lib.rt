@@ -1,4 +1,4 @@
-// A memory: its state, and the operations that set it up, write a row, release one and read packets.
+// A memory: its state, and the operations that set it up, write a row, release one or several and read packets.
 ghost use mathlib.Core.Path.{_≡_};
 ghost use mathlib.Core.Bool.{true};
 ghost use Prim.Native.Nat.{_*_, _<_};
@@ -8,11 +8,12 @@ ghost use Rattle.refusals.specs.declared.Verdict.the-variants.{Accepted};
 ghost use Rattle.simplex.specs.Filling.{packetsOf};
 ghost use Rattle.layout.specs.Shape.{mostRows, InRange, storeSize, generationSize};
 ghost use Rattle.memory.specs.State.{sound, withFull, rowToggled};
-ghost use Rattle.memory.specs.Operations.{setUpOf, outcomeBy, storeRefusal, writeRefusal, groupWritten, rowWritten, writeOutcome, writeStore, releaseRefusal, releaseOutcome, cycleOutcome, cycleOutput, cycleSchedule};
+ghost use Rattle.memory.specs.Operations.{setUpOf, outcomeBy, storeRefusal, writeRefusal, groupWritten, rowWritten, writeOutcome, writeStore, releaseRefusal, releaseOutcome, eachRow, releaseSetRefusal, releaseSetOutcome, cycleOutcome, cycleOutput, cycleSchedule};
 ghost use Rattle.cycle.specs.Served.{PlansAudited};
 ghost use Rattle.memory.specs.declared.Answer.the-variants.{FullRows, Served, Refused};
 ghost use Rattle.memory.specs.Demand3.{Demand3};
 ghost use Rattle.memory.specs.Laws.{TheMemory};
+use layout::MOST_ROWS;
 use layout::Shape;
 use refusals::Verdict;
 
@@ -105,6 +106,32 @@ fn judge_release(state: State, row: usize) -> Verdict
         return Verdict::Refused(9, 0);
     }
     Verdict::Accepted
+}
+
+// Accepted where every row of a set is in another; else refused with this number at the first that isn't.
+fn judge_rows(number: u8, set: u64, within: u64) -> Verdict
+    ensures { λ r. ⌜ r ≡ eachRow number set (marked within) ⌝ }
+{
+    let row = bits::first(bits::without(set, within));
+    // With none, it is 64.
+    if row < MOST_ROWS {
+        return Verdict::Refused(number, row);
+    }
+    Verdict::Accepted
+}
+
+// The refusal of a release of a row set: 5; 7 at its first row that is G or more; then 9 at its first empty row.
+fn judge_release_set(state: State, set: u64) -> Verdict
+    ensures { λ r. ⌜ r ≡ releaseSetRefusal state set ⌝ }
+{
+    if !is_sound(state) {
+        return Verdict::Refused(5, 0);
+    }
+    let verdict = judge_rows(7, set, bits::below(state.shape.g));
+    if let Verdict::Refused(number, place) = verdict {
+        return Verdict::Refused(number, place);
+    }
+    judge_rows(9, set, state.full)
 }
 
 // Sets the cells of all banks of group x in a row, from the group's packets.
@@ -214,6 +241,18 @@ impl State {
             return self.refuse(number, place);
         }
         self.toggle_row(row)
+    }
+
+    // Makes every row of a set empty, row r's mark being bit r. Or refuses, and then none is: 5; 7 at its first row that is G or more; then 9 at its first
+    // empty row. No byte of a store changes: it is given none.
+    pub fn release_set(self, set: u64) -> Outcome
+        ensures { λ r. ⌜ r ≡ releaseSetOutcome self set ⌝ }
+    {
+        let verdict = judge_release_set(self, set);
+        if let Verdict::Refused(number, at) = verdict {
+            return self.refuse(number, at);
+        }
+        self.with_full(bits::without(self.full, set))
     }
 
     // Serves a list of reads (01: asks; three bytes each: row, group, symbol) in one cycle: the packets to the output, P bytes each, and the banks

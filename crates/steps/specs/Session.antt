@@ -13,7 +13,7 @@ use Rattle.layout.specs.Shape.{banks, storeSize}
 use Rattle.reads.specs.Reads.{readCount}
 use Rattle.memory.specs.declared.State.{State}
 use Rattle.memory.specs.Operations.{setUpOf, cycleOutput}
-use Rattle.memory.specs.History.{Operation, write, release, read, Memory, outcomeOf, storeAfter}
+use Rattle.memory.specs.History.{Operation, write, release, releaseSet, read, Memory, outcomeOf, storeAfter}
 use Rattle.lines.specs.Lines.{linesOf}
 use Rattle.lines.specs.Hex.{bytesOf}
 use Rattle.frames.specs.declared.Frame.{Frame}
@@ -75,6 +75,7 @@ behind st store = drop (storeSize (st .shape)) store
 abbrev pub packetsBy : Memory → Operation → List ℕ
 packetsBy memory (write row generation) = []
 packetsBy memory (release row) = []
+packetsBy memory (releaseSet set) = []
 packetsBy memory (read reads out schedule) = cycleOutput (memory .state) (memory .store) reads out schedule
 
 -- 19, before any accepted 01; else an operation on the memory.

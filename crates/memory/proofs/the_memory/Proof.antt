@@ -8,12 +8,14 @@ use Rattle.refusals.specs.declared.Verdict.the-variants.{Accepted}
 use Rattle.memory.specs.declared.State.{State}
 use Rattle.memory.specs.declared.Answer.the-variants.{Refused as NotDone}
 use Rattle.memory.specs.State.{sound, Sound}
-use Rattle.memory.specs.Operations.{writeRefusal, writeOutcome, writeStore, releaseRefusal, releaseOutcome, cycleRefusal}
-use Rattle.memory.specs.History.{Operation, write, release, read, Memory, outcomeOf}
+use Rattle.memory.specs.Operations.{writeRefusal, writeOutcome, writeStore, releaseRefusal, releaseOutcome, releaseSetRefusal, cycleRefusal}
+use Rattle.memory.specs.History.{Operation, write, release, releaseSet, read, Memory, outcomeOf}
 use Rattle.memory.specs.Laws.{Written, OneMore}
 use Rattle.memory.proofs.States.{sound-words, words-sound}
 use Rattle.memory.proofs.Accepted.{written-facts, released-facts}
 use Rattle.memory.proofs.Toggling.{row-filled, row-emptied}
+use Rattle.memory.proofs.Emptying.{seven, nine}
+use Rattle.memory.proofs.Singly.{set-released, empty-set, singly, some-list}
 use Rattle.memory.proofs.Writing.{packet-in, row-written}
 use Rattle.memory.proofs.Histories.{after-any-history}
 use Rattle.memory.proofs.the_memory.Statement.{statement}
@@ -25,9 +27,10 @@ not-sound st h false e = e
 
 broken : (memory : Memory) → (Sound (memory .state) → ⊥) → (operation : Operation)
     → outcomeOf memory operation ≡ record { state = memory .state; answer = NotDone 5 0 }
-unfolding writeRefusal releaseRefusal cycleRefusal
+unfolding writeRefusal releaseRefusal releaseSetRefusal cycleRefusal
 broken memory h (write row generation) = rw (not-sound (memory .state) h (sound (memory .state)) refl)
 broken memory h (release row) = rw (not-sound (memory .state) h (sound (memory .state)) refl)
+broken memory h (releaseSet set) = rw (not-sound (memory .state) h (sound (memory .state)) refl)
 broken memory h (read reads out schedule) = rw (not-sound (memory .state) h (sound (memory .state)) refl)
 
 written : (st : State) (s : List ℕ) (row : ℕ) (generation : List ℕ) → writeRefusal st (length s) row (length generation) ≡ Accepted
@@ -46,6 +49,12 @@ returns c = record {
   packets = packet-in;
   written = written;
   released = released;
+  setReleased = set-released;
+  emptySet = empty-set;
+  seven = seven;
+  nine = nine;
+  singly = singly;
+  named = some-list;
   histories = after-any-history;
 }
 
