@@ -8,12 +8,12 @@ use lib.Dec.{eqb, leb}
 use lib.ListN.{length, getD}
 use Rattle.bits.specs.Bits.{bit}
 use Rattle.bits.specs.Marks.{marked, howMany}
-use Rattle.refusals.specs.declared.Verdict.the-variants.{Accepted, Refused as No}
+use Rattle.refusals.specs.declared.Verdict.the-variants.{Accepted, Refused}
 use Rattle.cells.specs.Cell.{Outside}
 use Rattle.simplex.specs.Code.{bankCell}
 use Rattle.layout.specs.declared.Shape.{Shape}
 use Rattle.memory.specs.declared.State.{State}
-use Rattle.memory.specs.declared.Answer.the-variants.{FullRows, Refused}
+use Rattle.memory.specs.declared.Answer.the-variants.{FullRows, Refused as NotDone}
 use Rattle.layout.specs.Shape.{mostRows, CellOf, offset, cellAt}
 use Rattle.memory.specs.State.{isFull, fullRows, sound, Sound}
 use Rattle.memory.specs.Operations.{packetsIn, packetIn, writeRefusal, writeOutcome, writeStore, releaseRefusal, releaseOutcome, releaseSetRefusal, releaseSetOutcome}
@@ -83,7 +83,7 @@ ReleasedSingly before (row ∷ rows) after =
 pub record TheMemory : Type 0 where
   pub states : (st : State) → (sound st ≡ true) ↔ Sound st
   pub broken : (memory : Memory) → (Sound (memory .state) → ⊥) → (operation : Operation)
-      → outcomeOf memory operation ≡ record { state = memory .state; answer = Refused 5 0 }
+      → outcomeOf memory operation ≡ record { state = memory .state; answer = NotDone 5 0 }
   pub packets : (sh : Shape) (generation : List ℕ) (x i : ℕ) → i < sh .k
       → getD (packetsIn sh generation x) i [] ≡ packetIn sh generation x i
   pub written : (st : State) (s : List ℕ) (row : ℕ) (generation : List ℕ) → writeRefusal st (length s) row (length generation) ≡ Accepted
@@ -93,9 +93,9 @@ pub record TheMemory : Type 0 where
       → Emptied set st (releaseSetOutcome st set .state)
   pub emptySet : (st : State) → Sound st → releaseSetOutcome st 0 ≡ record { state = st; answer = FullRows (fullRows st) }
   pub seven : (st : State) (set r : ℕ) → Sound st
-      → (releaseSetRefusal st set ≡ No 7 r) ↔ FirstRow set (λ i. leb (st .shape .g) i) r
+      → (releaseSetRefusal st set ≡ Refused 7 r) ↔ FirstRow set (λ i. leb (st .shape .g) i) r
   pub nine : (st : State) (set r : ℕ) → Sound st
-      → (releaseSetRefusal st set ≡ No 9 r) ↔ (NoRow set (λ i. leb (st .shape .g) i) × FirstRow set (λ i. not (isFull st i)) r)
+      → (releaseSetRefusal st set ≡ Refused 9 r) ↔ (NoRow set (λ i. leb (st .shape .g) i) × FirstRow set (λ i. not (isFull st i)) r)
   pub singly : (st after : State) (set : ℕ) (rows : List ℕ) → Sound st → set < 2 ^ mostRows → Names set rows
       → ReleasedSingly st rows after ↔ ((releaseSetRefusal st set ≡ Accepted) × (releaseSetOutcome st set .state ≡ after))
   pub named : (set : ℕ) → (rows : List ℕ) × Names set rows
