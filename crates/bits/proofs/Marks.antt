@@ -6,11 +6,11 @@ use Prim.Native.Nat.{ℕ, zero, suc, _+_, _-_, _*_, _/_, _%_, _^_, _≤_, _<_}
 use native.Mathlib.Nat.{le-refl, div-eq-of-lt, one-mul, eq-or-lt-of-le, le-of-suc-le-suc, mod-lt, mod-eq-of-lt, mod-one, add-zero, zero-add}
 use native.Mathlib.Omega.{arith}
 use native.Mathlib.Decide.{le-ind}
-use borrow.Author.Tests.{eq-eqb, eqb-true, eqb-false}
+use borrow.Author.Tests.{eq-eqb, eqb-true, eqb-false, ltb-true, ltb-false}
 use lib.Arith.{bin-ind}
 use lib.Bits.{bitXor, xor-shr, xor-zero-r}
 use lib.Count.{ones, ones-cat}
-use lib.Dec.{eqb, lit<}
+use lib.Dec.{eqb, ltb, lit<}
 use lib.Pow.{pow-pos, pow-lt, shl-exact, shr-shr, mod-pow-add}
 use Rattle.bits.specs.Bits.{bit}
 use Rattle.bits.specs.Marks.{marked, toggled, noneFrom, howMany}
@@ -52,6 +52,14 @@ none-marked set n e i l =
     let off : bit set i ≡ 0 =
     ap (bit set) (sym at) ∙ sym (bit-shr set n (i - n)) ∙ ap (λ (x : ℕ). bit x (i - n)) (eqb-true (set / 2 ^ n) 0 e) ∙ bit-zero (i - n) in
     ap (λ (d : ℕ). eqb d 1) off
+
+-- what fails from n on passes only below n
+pub passes-below : (test : ℕ → Bool) (n : ℕ) → ((i : ℕ) → n ≤ i → test i ≡ false) → (i : ℕ) → test i ≡ true → i < n
+passes-below test n off i e = go (ltb i n) refl
+  where
+    go : (t : Bool) → ltb i n ≡ t → i < n
+    go true l = ltb-true i n l
+    go false l = absurd (false≢true (sym (off i (ltb-false i n l)) ∙ e))
 
 pub unmarked : (i : ℕ) → marked 0 i ≡ false
 unmarked i = ap (λ (d : ℕ). eqb d 1) (bit-zero i)

@@ -8,7 +8,7 @@ use borrow.Author.Tests.{not-true, not-false, ltb-true, ltb-false, lt-ltb, le-le
 use lib.Dec.{leb, ltb}
 use Rattle.bits.specs.Marks.{marked, howMany}
 use Rattle.bits.specs.Sets.{First}
-use Rattle.bits.proofs.Marks.{same-many, many-without}
+use Rattle.bits.proofs.Marks.{passes-below, same-many, many-without}
 use Rattle.bits.proofs.Sets.{marked-set, marked-past}
 use Rattle.refusals.specs.declared.Verdict.{Verdict}
 use Rattle.refusals.specs.declared.Verdict.the-variants.{Accepted, Refused}
@@ -104,11 +104,7 @@ set-released-facts st set e =
 
 -- a full row is below G
 pub full-below : (st : State) → Sound st → (r : ℕ) → isFull st r ≡ true → r < st .shape .g
-full-below st s r e = go (ltb r (st .shape .g)) refl
-  where
-    go : (t : Bool) → ltb r (st .shape .g) ≡ t → r < st .shape .g
-    go true l = ltb-true r (st .shape .g) l
-    go false l = absurd (false≢true (sym (s .rows r (ltb-false r (st .shape .g) l)) ∙ e))
+full-below st s = passes-below (isFull st) (st .shape .g) (s .rows)
 
 pub facts-set-released : (st : State) (set : ℕ) → Sound st → ((r : ℕ) → marked set r ≡ true → isFull st r ≡ true) → releaseSetRefusal st set ≡ Accepted
 unfolding releaseSetRefusal

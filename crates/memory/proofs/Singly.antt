@@ -10,7 +10,7 @@ use native.Mathlib.Decide.{ℕ-discrete}
 use borrow.Author.Tests.{eq-eqb, ne-eqb, lt-ltb, ltb-true, ltb-false}
 use lib.Dec.{ltb}
 use Rattle.bits.specs.Marks.{marked, toggled}
-use Rattle.bits.proofs.Marks.{toggled-itself, toggled-other, unmarked, bit-mark}
+use Rattle.bits.proofs.Marks.{toggled-itself, toggled-other, passes-below, unmarked, bit-mark}
 use Rattle.bits.proofs.Sets.{only-set, same-set, none-lt, lt-none}
 use Rattle.refusals.specs.declared.Verdict.the-variants.{Accepted}
 use Rattle.layout.specs.Shape.{mostRows}
@@ -121,20 +121,12 @@ one-end (row ∷ rows) st a b x y = one-end rows (releaseOutcome st row .state) 
 
 -- ---- the laws
 
--- 64 marks: every marked row is below 64
-marked-below : (set : ℕ) → set < 2 ^ mostRows → (r : ℕ) → marked set r ≡ true → r < mostRows
-marked-below set h r e = go (ltb r mostRows) refl
-  where
-    go : (t : Bool) → ltb r mostRows ≡ t → r < mostRows
-    go true l = ltb-true r mostRows l
-    go false l = absurd (false≢true (sym (lt-none set mostRows h r (ltb-false r mostRows l)) ∙ e))
-
 module _ (st : State) (set : ℕ) (h : set < 2 ^ mostRows) (yes : releaseSetRefusal st set ≡ Accepted) where
   whole : Sound st
   whole = sound-words st (set-released-facts st set yes .state)
 
   all-full : (r : ℕ) → marked set r ≡ true → isFull st r ≡ true
-  all-full r e = set-released-facts st set yes .full r (marked-below set h r e) e
+  all-full r e = set-released-facts st set yes .full r (passes-below (marked set) mostRows (lt-none set mostRows h) r e) e
 
   pub set-released : Emptied set st (releaseSetOutcome st set .state)
   set-released = rw yes (record {
