@@ -55,6 +55,13 @@ storeAfter memory (release row) = memory .store
 storeAfter memory (releaseSet set) = memory .store
 storeAfter memory (read reads out schedule) = memory .store
 
+-- What an operation puts out.
+abbrev pub packetsBy : Memory → Operation → List ℕ
+packetsBy memory (write row generation) = []
+packetsBy memory (release row) = []
+packetsBy memory (releaseSet set) = []
+packetsBy memory (read reads out schedule) = cycleOutput (memory .state) (memory .store) reads out schedule
+
 abbrev pub step : Memory → Operation → Memory
 step memory operation = record { state = outcomeOf memory operation .state; store = storeAfter memory operation }
 

@@ -15,12 +15,12 @@ use Rattle.layout.specs.Shape.{storeSize}
 use Rattle.memory.specs.declared.State.{State}
 use Rattle.memory.specs.declared.Outcome.{Outcome}
 use Rattle.memory.specs.Operations.{cycleOutcome, cycleOutput}
-use Rattle.memory.specs.History.{outcomeOf}
+use Rattle.memory.specs.History.{outcomeOf, packetsBy}
 use Rattle.frames.specs.Frames.{answerByte, said}
 use Rattle.frames.specs.Printing.{Prints}
 use Rattle.steps.specs.declared.Session.{Session}
 use Rattle.steps.specs.declared.Session.the-variants.{Running}
-use Rattle.steps.specs.Session.{mostStore, mostOutput, memoryOf, packetsBy, operationDone, cycleOf}
+use Rattle.steps.specs.Session.{mostStore, mostOutput, memoryOf, operationDone, cycleOf}
 use Rattle.steps.specs.Steps.{Gives}
 use Rattle.steps.specs.Parts.{lentSize}
 use Rattle.steps.proofs.Rooms.{saidOf, same-said}

@@ -13,13 +13,13 @@ use Rattle.memory.specs.declared.State.{State}
 use Rattle.memory.specs.declared.Outcome.{Outcome}
 use Rattle.memory.specs.State.{sound}
 use Rattle.memory.specs.Operations.{writeRefusal, writeOutcome, writeStore, cycleRefusal}
-use Rattle.memory.specs.History.{Operation, write, outcomeOf, storeAfter}
+use Rattle.memory.specs.History.{Operation, write, outcomeOf, storeAfter, packetsBy}
 use Rattle.frames.specs.Frames.{answerByte, said}
 use Rattle.frames.specs.Printing.{Prints}
 use Rattle.steps.specs.declared.Reply.{Reply}
 use Rattle.steps.specs.declared.Session.{Session}
 use Rattle.steps.specs.declared.Session.the-variants.{Fresh, Running}
-use Rattle.steps.specs.Session.{mostStore, After, refusedWith, unlessRefused, memoryOf, behind, packetsBy, operationDone}
+use Rattle.steps.specs.Session.{mostStore, After, refusedWith, unlessRefused, memoryOf, behind, operationDone}
 use Rattle.steps.specs.Steps.{Gives}
 use Rattle.steps.specs.Parts.{lentSize}
 use Rattle.steps.proofs.Lesser.{take-min, drop-min}

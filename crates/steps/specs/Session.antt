@@ -12,8 +12,8 @@ use Rattle.layout.specs.declared.Shape.{Shape}
 use Rattle.layout.specs.Shape.{banks, storeSize}
 use Rattle.reads.specs.Reads.{readCount}
 use Rattle.memory.specs.declared.State.{State}
-use Rattle.memory.specs.Operations.{setUpOf, cycleOutput}
-use Rattle.memory.specs.History.{Operation, write, release, releaseSet, read, Memory, outcomeOf, storeAfter}
+use Rattle.memory.specs.Operations.{setUpOf}
+use Rattle.memory.specs.History.{Operation, write, release, read, Memory, outcomeOf, storeAfter, packetsBy}
 use Rattle.lines.specs.Lines.{linesOf}
 use Rattle.lines.specs.Hex.{bytesOf}
 use Rattle.frames.specs.declared.Frame.{Frame}
@@ -70,13 +70,6 @@ memoryOf st store = record { state = st; store = take (storeSize (st .shape)) st
 
 abbrev pub behind : State → (store : List ℕ) → List ℕ
 behind st store = drop (storeSize (st .shape)) store
-
--- What an operation puts out.
-abbrev pub packetsBy : Memory → Operation → List ℕ
-packetsBy memory (write row generation) = []
-packetsBy memory (release row) = []
-packetsBy memory (releaseSet set) = []
-packetsBy memory (read reads out schedule) = cycleOutput (memory .state) (memory .store) reads out schedule
 
 -- 19, before any accepted 01; else an operation on the memory.
 abbrev pub operationDone : Session → (store : List ℕ) → (kind : ℕ) → (Shape → Operation) → After
