@@ -4,7 +4,7 @@ use mathlib.Core.Logic.{inl, inr}
 use mathlib.Core.Bool.{Bool, true, false, false≢true}
 use mathlib.Core.List.{List, [], _∷_, map}
 use Prim.Native.Nat.{ℕ, zero, suc, _-_, _≤_, _<_, suc-le-suc}
-use native.Mathlib.Nat.{le-of-suc-le-suc, le-refl, lt-of-not-le, not-suc-le-zero}
+use native.Mathlib.Nat.{le-refl, lt-of-not-le}
 use native.Mathlib.Omega.{arith, by-contra}
 use lib.Bits.{bitXor, xor-lt, xor-zero-r}
 use lib.Pow.{pow-mono, lt-of-le-ones}
@@ -16,7 +16,8 @@ use Rattle.simplex.proofs.Banks.{yields}
 use Rattle.simplex.proofs.Limit.{the-limit, fails-yields}
 use Rattle.simplex.proofs.Requests.{length-reads}
 use Rattle.simplex.proofs.Tables.{limit-most}
-use Rattle.audit.specs.Plan.{Pair, opens, opened, isPlan, Serves, pairAt, IsPlan}
+use Rattle.audit.specs.Plan.{Pair, noPair, opens, opened, isPlan, Serves, pairAt, IsPlan}
+use Rattle.audit.proofs.Places.{map-at}
 use Rattle.audit.proofs.Reading.{serves-at, sound}
 
 -- ---- one pair
@@ -41,11 +42,6 @@ opens-range a (suc b) N x l h (inr (inr i)) = absurd i
 
 -- ---- the sets that the pairs open
 
-set-at : (pairs : List Pair) (n : ℕ) → n < length pairs → getD (map opened pairs) n [] ≡ opened (pairAt pairs n)
-set-at [] n h = absurd (not-suc-le-zero h)
-set-at (p ∷ pairs) zero h = refl
-set-at (p ∷ pairs) (suc n) h = set-at pairs n (le-of-suc-le-suc h)
-
 in-set : (pairs : List Pair) (n b : ℕ) → In b (getD (map opened pairs) n []) → (n < length pairs) × In b (opened (pairAt pairs n))
 in-set [] n b i = absurd i
 in-set (p ∷ pairs) zero b i = (omega arith, i)
@@ -63,7 +59,7 @@ served K P counts pairs plan = record {
   };
   yields = λ n h.
       let l : n < length pairs = rw (plan .one-each, ← (length-reads counts)) h in
-      rw (set-at pairs n l) (opened-yields K P (getD (readsOf counts) n 0) (pairAt pairs n) (each n l));
+      rw (map-at opened pairs n noPair [] l) (opened-yields K P (getD (readsOf counts) n 0) (pairAt pairs n) (each n l));
 }
   where
     each : (n : ℕ) → n < length pairs → Serves K (getD (readsOf counts) n 0) (pairAt pairs n)

@@ -94,6 +94,19 @@ pub none-passed : (test : ℕ → Bool) (n : ℕ) → ((i : ℕ) → i < n → t
 none-passed test zero h = refl
 none-passed test (suc n) h = rw (none-passed test n (λ i l. h i (omega arith)), h n (omega arith))
 
+-- at most one passes where no two do
+pub many-one : (test : ℕ → Bool) (n : ℕ) → ((i j : ℕ) → i < j → j < n → test i ≡ true → test j ≡ true → ⊥) → howMany test n ≤ 1
+many-one test zero apart = omega arith
+many-one test (suc n) apart = go (test n) refl (many-one test n (λ i j l u. apart i j l (omega arith)))
+  where
+    none : test n ≡ true → (i : ℕ) → i < n → (t : Bool) → test i ≡ t → test i ≡ false
+    none e i l true p = absurd (apart i n l (omega arith) p e)
+    none e i l false p = p
+
+    go : (t : Bool) → test n ≡ t → howMany test n ≤ 1 → howMany test n + cond t 1 0 ≤ 1
+    go true e few = rw (none-passed test n (λ i l. none e i l (test i) refl)) (omega arith)
+    go false e few = omega arith
+
 pub all-pass : (n : ℕ) → howMany (λ (_ : ℕ). true) n ≡ n
 all-pass zero = refl
 all-pass (suc n) = omega (arith, all-pass n)
