@@ -11,7 +11,8 @@ import subprocess
 import sys
 
 ROOT = os.path.dirname(os.path.dirname(os.path.abspath(__file__)))
-DOCUMENTS = ["README.md", "docs/LIMIT.md", "docs/EVIDENCE.md", "docs/DECISIONS.md"]
+NOTES = sorted(os.listdir(os.path.join(ROOT, "docs/notes")))
+DOCUMENTS = ["README.md", "docs/LIMIT.md", "docs/EVIDENCE.md", "docs/DECISIONS.md"] + [f"docs/notes/{name}" for name in NOTES]
 
 
 def read(path):
