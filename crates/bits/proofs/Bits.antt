@@ -19,6 +19,11 @@ bit-half b i e =
 pub bit-zero : (i : ℕ) → bit 0 i ≡ 0
 bit-zero i = ap (λ (n : ℕ). n % 2) (zero-div (2 ^ i))
 
+-- so n has no bit from n on
+pub below-power : (n : ℕ) → n < 2 ^ n
+below-power zero = omega arith
+below-power (suc n) = omega (arith, below-power n, pow-suc 2 n)
+
 -- two numbers of K bits, all of them the same
 pub same-bits : (K a b : ℕ) → a < 2 ^ K → b < 2 ^ K → ((i : ℕ) → i < K → bit a i ≡ bit b i) → a ≡ b
 same-bits zero a b ha hb same = omega arith

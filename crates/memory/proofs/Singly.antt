@@ -4,12 +4,13 @@ use mathlib.Core.Logic.{_≢_, ⊎-elim, _↔_}
 use mathlib.Core.Bool.{Bool, true, false, cond, _&&_, not, false≢true}
 use mathlib.Core.List.{List, [], _∷_}
 use Prim.Native.Nat.{ℕ, zero, suc, _^_, _≤_, _<_}
-use native.Mathlib.Nat.{eq-or-lt-of-le, le-of-suc-le-suc, pow-suc}
+use native.Mathlib.Nat.{eq-or-lt-of-le, le-of-suc-le-suc}
 use native.Mathlib.Omega.{arith}
 use native.Mathlib.Decide.{ℕ-discrete}
 use borrow.Author.Tests.{eq-eqb, ne-eqb, lt-ltb, ltb-true, ltb-false}
 use lib.Dec.{ltb}
 use Rattle.bits.specs.Marks.{marked, toggled}
+use Rattle.bits.proofs.Bits.{below-power}
 use Rattle.bits.proofs.Marks.{toggled-itself, toggled-other, passes-below, unmarked, bit-mark}
 use Rattle.bits.proofs.Sets.{only-set, same-set, none-lt, lt-none}
 use Rattle.refusals.specs.declared.Verdict.the-variants.{Accepted}
@@ -191,10 +192,6 @@ each-once set (suc n) r l =
         → (t : Bool) → timesIn r (cond t (n ∷ rowsOf set n) (rowsOf set n)) ≡ cond (marked set r) 1 0
     before b once true = times-other n r (rowsOf set n) (λ e. omega arith) ∙ once
     before b once false = once
-
-below-power : (n : ℕ) → n < 2 ^ n
-below-power zero = omega arith
-below-power (suc n) = omega (arith, below-power n, pow-suc 2 n)
 
 pub some-list : (set : ℕ) → (rows : List ℕ) × Names set rows
 some-list set = (rowsOf set set, λ r. go r (ltb r set) refl ∙ sym (bit-mark set r))
