@@ -12,9 +12,9 @@ MOST_SYMBOLS = 5
 EVERY_K = range(2, MOST_SYMBOLS + 1)
 GROUPS, ROWS, BYTES, UNTOUCHED = 8, 4, 3, 238
 
-# The lines of a cycle. Of one K there are a head, three cycles, the answer to a release, on this line, and one cycle more.
+# The lines of a cycle. Of one K there are a head, four cycles, the answer to a release, on this line, and one cycle more.
 CYCLE_LINES = 4
-RELEASE = 1 + 3 * CYCLE_LINES
+RELEASE = 1 + 4 * CYCLE_LINES
 K_LINES = RELEASE + 1 + CYCLE_LINES
 
 # The small memory's generations, and its refused cycles: the number, the place, the list, and the lengths of output and schedule.
@@ -45,12 +45,18 @@ def none_twice(banks):
     return len(set(banks)) == len(banks)
 
 
+# Where no symbol is read more than once, each read opens its systematic bank and no other.
+def is_systematic(symbols, pairs):
+    return not none_twice(symbols) or pairs == [(2 ** i, 0) for i in symbols]
+
+
 def is_plan(K, counts, pairs):
     symbols = [i for i, c in enumerate(counts) for _ in range(c)]
     return (
         len(pairs) == len(symbols)
         and all(serves(K, i, a, b) for (a, b), i in zip(pairs, symbols))
         and none_twice([b for pair in pairs for b in pair if b])
+        and is_systematic(symbols, pairs)
     )
 
 
@@ -59,7 +65,7 @@ def tally(K):
     within, above = comb(most + K, K), comb(most + K, K - 1)
     return (
         f"K {K}: requests within the limit {within}, plans that the audit says yes to {within}, pairs in them {K * comb(most + K, K + 1)}, "
-        f"exchanged and said no to {within - 1}; "
+        f"plans of one bank a read where no symbol is read twice {2 ** K}, exchanged and said no to {within - 1}; "
         f"requests of one read more {above}, refused 12 {above}"
     )
 
@@ -85,6 +91,11 @@ def mixed(K, n):
     return ((x + j) % ROWS, x, (x * 3 + j * (x + 1)) % K)
 
 
+def one_colliding(n):
+    x, j = n % GROUPS, n // GROUPS
+    return ((x + j) % ROWS, x, 0 if x == 5 else j)
+
+
 # The number and place of a cycle's refusal, where the reads have the right form. The counts go by group, over all rows.
 def cycle_refusal(K, full, reads):
     for n, (row, _, _) in enumerate(reads):
@@ -99,11 +110,13 @@ def cycle_refusal(K, full, reads):
 def is_served(K, reads, packets, schedule):
     lines = list(zip(schedule[::2], schedule[1::2]))
     opened = [(x, bank) for (_, x, _), line in zip(reads, lines) for bank in line if bank]
+    by_group = [[(i, line) for (_, group, i), line in zip(reads, lines) if group == x] for x in range(GROUPS)]
     return (
         packets == [byte for read in reads for byte in packet(K, *read)]
         and len(lines) == len(reads)
         and all(serves(K, i, a, b) for (_, _, i), (a, b) in zip(reads, lines))
         and none_twice(opened)
+        and all(is_systematic([i for i, _ in group], [line for _, line in group]) for group in by_group)
     )
 
 
@@ -127,7 +140,8 @@ def wrong_cycles(K, lines):
     limit = 2 ** (K - 1)
     largest = [mixed(K, n) for n in range(GROUPS * limit)]
     every, three = set(range(ROWS)), set(range(ROWS)) - {2}
-    cycles = [(every, largest), (every, largest + [(1, 5, 0)]), (every, [(2, 3, 1)] * limit), (three, largest)]
+    lists = [largest, largest + [(1, 5, 0)], [(2, 3, 1)] * limit, [one_colliding(n) for n in range(GROUPS * K)]]
+    cycles = [(every, reads) for reads in lists] + [(three, largest)]
     shown = lines[1:RELEASE] + lines[RELEASE + 1:]
     wrong = [] if lines[0] == f"K {K}" and lines[RELEASE] == "full rows 3" else [f"K {K}: not as it should be"]
     for n, (full, reads) in enumerate(cycles):
@@ -144,7 +158,7 @@ def small_store():
 
 
 # What it prints: each write that is refused leaves the store as it was, and each cycle that is refused its buffers.
-def small_lines(schedule):
+def small_lines():
     store = "store " + small_store()
     lines = ["small memory", "full rows 1", "full rows 2", store]
     for answer in ["refused 5, place 0", "refused 6, place 0", "refused 7, place 0", "refused 8, place 0", "full rows 1", "refused 10, place 0"]:
@@ -152,14 +166,8 @@ def small_lines(schedule):
     lines += ["refused 5, place 0", "refused 7, place 0", "refused 9, place 0"]
     for number, place, reads, out, sheet in SMALL_CYCLES:
         lines += [f"cycle of {len(reads) // 6} reads: refused {number}, place {place}", "reads " + reads, "packets " + "ee" * out, "schedule " + "ee" * sheet]
-    lines += ["cycle of 2 reads: served", "reads 000100010101", "packets 0480", "schedule " + schedule]
+    lines += ["cycle of 2 reads: served", "reads 000100010101", "packets 0480", "schedule 01000200"]
     return lines + ["audit: refused 1, place 0", "audit: refused 11, place 0", "audit: no"]
-
-
-def is_small(lines):
-    pairs = bytes.fromhex(lines[-4].removeprefix("schedule "))
-    (a, b), (c, d) = pairs[:2], pairs[2:]
-    return lines == small_lines(pairs.hex()) and serves(2, 0, a, b) and serves(2, 1, c, d) and none_twice([n for n in pairs if n])
 
 
 # A release of a row set: all its rows are emptied, or none.
@@ -187,7 +195,7 @@ def wrong_lines(requests, lines):
     for n, K in enumerate(EVERY_K):
         wrong += wrong_cycles(K, cycles[K_LINES * n:K_LINES * (n + 1)])
     sets = ["row sets"] + [line for full, rows in SIX_SETS for line in set_lines(full, rows)]
-    wrong += [] if is_small(lines[end:-len(sets)]) else ["the small memory"]
+    wrong += [] if lines[end:-len(sets)] == small_lines() else ["the small memory"]
     return wrong + ([] if lines[-len(sets):] == sets else ["the row sets"])
 
 

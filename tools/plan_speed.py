@@ -1,6 +1,7 @@
 #!/usr/bin/env python3
-"""Measures the planner at K = 5 in one process with plain Rust of the same method and table (without the refusals) and with sixteen reads of two
-cells each, and compares the plans with plain Rust's on every request within the limit.
+"""Measures the planner at K = 5, on requests of sixteen reads and on requests that read no symbol twice, beside plain Rust of the same method and
+table (without the refusals) in one process; measures sixteen reads of two cells; and compares the plans with plain Rust's on every request within
+the limit.
 
     python3 tools/plan_speed.py
 
@@ -76,6 +77,14 @@ struct Plan {
 #[inline(never)]
 fn plain_plan(k: usize, counts: [usize; 5]) -> Plan {
     let mut plan = Plan { first: [0; 16], second: [0; 16] };
+    if counts.iter().all(|&c| c <= 1) {
+        let mut n = 0;
+        for i in 0..5 {
+            plan.first[n] = (counts[i] << i) as u8;
+            n += counts[i];
+        }
+        return plan;
+    }
     let left = (1 << (k - 1)) - counts.iter().sum::<usize>();
     let (mut ranks, mut sorted, mut starts) = ([0; 5], [0; 5], [0; 5]);
     for i in 0..k {
@@ -167,27 +176,38 @@ fn median(many: usize, mut work: impl FnMut(usize)) -> f64 {
     times[50]
 }
 
+fn random(x: &mut u64) -> usize {
+    *x ^= *x << 13;
+    *x ^= *x >> 7;
+    *x ^= *x << 17;
+    (*x >> 16) as usize
+}
+
+fn measure(what: &str, requests: &[[usize; 5]]) {
+    let proved_ns = median(requests.len(), |n| { black_box(proved(black_box(5), requests[n])); });
+    let plain_ns = median(requests.len(), |n| { black_box(plain(black_box(5), requests[n])); });
+    println!("K = 5, {what}, medians: a plan {proved_ns:.0} ns, in plain Rust {plain_ns:.0} ns");
+}
+
 fn main() {
-    println!("requests within the limit: {}, all plans the same", compare());
-    let (mut x, mut requests) = (88172645463325252u64, vec![]);
-    for _ in 0..10_000 {
-        let mut counts = [0; 5];
+    let (mut x, mut full, mut collision_free) = (88172645463325252u64, vec![[0; 5]; 10_000], vec![[0; 5]; 10_000]);
+    for counts in &mut full {
         for _ in 0..16 {
-            x ^= x << 13;
-            x ^= x >> 7;
-            x ^= x << 17;
-            counts[(x >> 16) as usize % 5] += 1;
+            counts[random(&mut x) % 5] += 1;
         }
-        requests.push(counts);
     }
-    let proved_ns = median(requests.len(), |n| drop(black_box(proved(black_box(5), requests[n]))));
-    let plain_ns = median(requests.len(), |n| drop(black_box(plain(black_box(5), requests[n]))));
-    println!("K = 5, random requests of 16 reads, medians: a plan {proved_ns:.0} ns, in plain Rust {plain_ns:.0} ns");
+    for counts in &mut collision_free {
+        let set = random(&mut x);
+        *counts = [0, 1, 2, 3, 4].map(|i| set >> i & 1);
+    }
+    measure("random requests of 16 reads", &full);
+    measure("random requests that read no symbol twice", &collision_free);
     for p in [64, 256, 1500] {
         let (mut out, store) = (vec![0u8; p], vec![1u8; 31 * p]);
         let serve_ns = median(1000, |_| serve(black_box(&mut out), black_box(&store), p));
         println!("sixteen reads of two cells of {p} bytes: {serve_ns:.0} ns");
     }
+    println!("requests within the limit: {}, all plans the same", compare());
 }
 """
 

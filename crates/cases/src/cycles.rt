@@ -1,6 +1,6 @@
 // Read cycles of a memory of eight groups, four rows and packets of three bytes, at each K: the largest mixed cycle, the same with one read more,
-// equal reads, and the mixed cycle again after a row is released. tools/cases.py knows the packets and the lists by the formulas below, and judges
-// what is printed.
+// equal reads, each symbol once in every group but one, and the mixed cycle again after a row is released. tools/cases.py knows the packets and the
+// lists by the formulas below, and judges what is printed.
 ghost use Prim.Native.Nat.{_+_, _*_, _≤_, _<_};
 ghost use lib.ListN.{length};
 ghost use Rattle.simplex.specs.Shape.{mostSymbols, mostPairs, banksOf};
@@ -67,6 +67,21 @@ fn set_mixed(reads: &mut [u8], k: usize)
 fn set_equal(reads: &mut [u8]) {
     for n in 0..reads.len() / 3 {
         set_read(reads, n, 2, 3, 1);
+    }
+}
+
+// The symbol of read j of group x in a list where every group reads each symbol once, but group 5 reads symbol 0 again and again.
+fn symbol_one_colliding(x: usize, j: usize) -> u8 {
+    if x == 5 { 0 } else { (j % MOST_SYMBOLS) as u8 }
+}
+
+// That list. Each group goes from row to row.
+fn set_one_colliding(reads: &mut [u8]) {
+    for n in 0..reads.len() / 3 {
+        let x = n % MOST_GROUPS;
+        let j = n / MOST_GROUPS;
+        let row = (x + j) % ROWS;
+        set_read(reads, n, row as u8, x as u8, symbol_one_colliding(x, j));
     }
 }
 
@@ -149,6 +164,15 @@ fn show_equal(state: State, store: &[u8], limit: usize)
     show_cycle(state, store, &reads[..3 * limit]);
 }
 
+// As many reads of each group as it has symbols.
+fn show_one_colliding(state: State, store: &[u8], k: usize)
+    requires { ⌜ k ≤ mostSymbols ⌝ }
+{
+    let mut reads = [0u8; 3 * READS];
+    set_one_colliding(&mut reads);
+    show_cycle(state, store, &reads[..3 * MOST_GROUPS * k]);
+}
+
 // Writes every row.
 fn fill(state: State, store: &mut [u8], k: usize) -> State
     requires { ⌜ k ≤ mostSymbols ⌝ }
@@ -162,15 +186,23 @@ fn fill(state: State, store: &mut [u8], k: usize) -> State
     next
 }
 
+// The cycles while every row is full.
+fn show_full(state: State, store: &[u8], k: usize, limit: usize)
+    requires { ⌜ (1 ≤ k) × (k ≤ mostSymbols) × (limit ≤ mostPairs) ⌝ }
+{
+    show_mixed(state, store, k, limit, 0);
+    show_mixed(state, store, k, limit, 1);
+    show_equal(state, store, limit);
+    show_one_colliding(state, store, k);
+}
+
 // Fills a store at one K, and shows its cycles.
 fn show_cycles(store: &mut [u8], k: usize, limit: usize)
     requires { ⌜ (1 ≤ k) × (k ≤ mostSymbols) × (limit ≤ mostPairs) ⌝ }
 {
     let new = State::set_up(k, MOST_GROUPS, BYTES, ROWS);
     let state = fill(new.state, store, k);
-    show_mixed(state, store, k, limit, 0);
-    show_mixed(state, store, k, limit, 1);
-    show_equal(state, store, limit);
+    show_full(state, store, k, limit);
     let released = state.release(2);
     print_answer(released);
     show_mixed(released.state, store, k, limit, 0);

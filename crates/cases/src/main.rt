@@ -4,8 +4,8 @@
 // releases of row sets, as sets.rt says.
 //
 // With L = 2^(K-1), C(L+K, K) requests total at most L and ask K * C(L+K, K+1) reads, and C(L+K, K-1) total L + 1. tools/cases.py computes these,
-// and judges each plan and refusal of the first part by the words of the rules: which plan a request gets is free. All plans but that of no reads
-// have a first pair.
+// and judges each plan and refusal of the first part by the words of the rules: which plan a request gets is free, except where no symbol is
+// read more than once (2^K requests). All plans but that of no reads have a first pair.
 ghost use Prim.Native.Nat.{_≤_, _<_};
 ghost use Rattle.simplex.specs.Shape.{mostSymbols, mostPairs};
 
@@ -21,12 +21,14 @@ use refusals::Verdict;
 use simplex::MOST_PAIRS;
 use simplex::MOST_SYMBOLS;
 
-// What a run over many requests counts: those within the limit, the plans that the audit says yes to and their pairs, the requests of one read
-// more, the refusals by number 12, and the plans, each with the banks of its first pair exchanged, that the audit says no to.
+// What a run over many requests counts: those within the limit, the plans that the audit says yes to and their pairs, the plans that open one bank a
+// read for requests that read no symbol twice, the requests of one read more, the refusals by number 12, and the plans, each with the banks of its
+// first pair exchanged, that the audit says no to.
 struct Tally {
     within: u64,
     passed: u64,
     pairs: u64,
+    systematic: u64,
     above: u64,
     refused: u64,
     denied: u64,
@@ -82,6 +84,17 @@ fn is_passed(k: usize, counts: [usize; MOST_SYMBOLS], plan: Plan) -> bool {
         Audited::No => false,
         Audited::Refused(_number, _place) => false,
     }
+}
+
+// Whether every read of a plan opens one bank.
+fn is_systematic(plan: Plan) -> bool {
+    let second = plan.second;
+    for n in 0..MOST_PAIRS {
+        if second[n] != 0 {
+            return false;
+        }
+    }
+    true
 }
 
 // Whether the audit says no to a plan when the banks of its first pair are exchanged.
@@ -186,6 +199,9 @@ fn count(tally: Tally, k: usize, counts: [usize; MOST_SYMBOLS], left: usize) -> 
                 next.passed = more(next.passed, 1);
                 next.pairs = more(next.pairs, plan.len as u64);
             }
+            if plan::is_collision_free(counts) && is_systematic(plan) {
+                next.systematic = more(next.systematic, 1);
+            }
             if is_denied(k, counts, plan) {
                 next.denied = more(next.denied, 1);
             }
@@ -218,8 +234,9 @@ fn run(k: usize, limit: usize, many: usize)
 {
     let mut tally = Tally {
         within: 0,
-        pairs: 0,
         passed: 0,
+        pairs: 0,
+        systematic: 0,
         above: 0,
         refused: 0,
         denied: 0,
@@ -243,6 +260,8 @@ fn print_tally(k: usize, tally: Tally) {
     print_number(tally.passed);
     print_text(b", pairs in them ");
     print_number(tally.pairs);
+    print_text(b", plans of one bank a read where no symbol is read twice ");
+    print_number(tally.systematic);
     print_text(b", exchanged and said no to ");
     print_number(tally.denied);
     print_text(b"; requests of one read more ");

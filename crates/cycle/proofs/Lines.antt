@@ -10,6 +10,7 @@ use Rattle.cells.specs.Xor.{xorBytes, zeros}
 use Rattle.cells.proofs.Turns.{length-xor-cell}
 use Rattle.cells.proofs.Cells.{getD-cell}
 use Rattle.cells.proofs.Each.{cell-each}
+use Rattle.simplex.specs.Shape.{SymbolsInRange}
 use Rattle.simplex.specs.Limit.{In}
 use Rattle.audit.specs.Plan.{Pair, opens, opened, Serves}
 use Rattle.layout.specs.declared.Shape.{Shape}
@@ -17,8 +18,8 @@ use Rattle.layout.specs.Shape.{InRange, banks, storeSize, offset, cellAt}
 use Rattle.reads.specs.Reads.{readCount, row, group, symbol}
 use Rattle.reads.specs.Parts.{Named, Few}
 use Rattle.cycle.specs.Cycle.{pairOf, xorOfCells, packetOf, lineOf, packetsOut, linesOut}
-use Rattle.cycle.specs.Served.{line, ServedRead, OpenedOnce}
-use Rattle.cycle.proofs.Pairs.{pair-serves, pairs-once}
+use Rattle.cycle.specs.Served.{line, ServedRead, SystematicLines, OpenedOnce}
+use Rattle.cycle.proofs.Pairs.{pair-systematic, pair-serves, pairs-once}
 use Rattle.cycle.proofs.Serving.{within}
 
 -- ---- the packet that a pair of banks gives has P bytes
@@ -48,6 +49,9 @@ module _ (sh : Shape) (reads schedule : List ℕ) (size : length schedule ≡ re
       at : (f : ℕ) → f < 2 → cell (linesOut sh reads schedule) (n * 2) 2 ≡ lineOf (sh .k) reads n
           → getD (linesOut sh reads schedule) (n * 2 + f) 0 ≡ getD (lineOf (sh .k) reads n) f 0
       at f h e = sym (getD-cell (linesOut sh reads schedule) (n * 2) 2 f h) ∙ ap (λ (c : List ℕ). getD c f 0) e
+
+  pub systematic-lines : SymbolsInRange (sh .k) → Named sh reads → SystematicLines reads (linesOut sh reads schedule)
+  systematic-lines range named n l free = line-is n l ∙ pair-systematic sh reads range named n l free
 
 -- ---- each read
 

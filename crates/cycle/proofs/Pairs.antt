@@ -1,5 +1,5 @@
 -- The pair of each read: it stands in the plan of its group, serves its symbol, and is handed out once.
-use mathlib.Core.Path.{_≡_, refl, ap, subst}
+use mathlib.Core.Path.{_≡_, refl, ap, _∙_, subst}
 use mathlib.Core.Bool.{Bool, true, false}
 use mathlib.Core.List.{List}
 use Prim.Native.Nat.{ℕ, _+_, _<_}
@@ -9,16 +9,18 @@ use lib.Dec.{ltb, eqb}
 use lib.ListN.{getD}
 use Rattle.simplex.specs.Shape.{SymbolsInRange}
 use Rattle.simplex.specs.Limit.{total, In}
-use Rattle.audit.specs.Plan.{opened, Serves, start, pairAt, IsPlan}
+use Rattle.audit.specs.Plan.{Pair, opened, Serves, start, pairAt, IsPlan}
 use Rattle.audit.proofs.Places.{place-less, start-less}
+use Rattle.plan.specs.Systematic.{systematicPair}
 use Rattle.plan.specs.Finding.{planOf}
 use Rattle.plan.specs.Laws.{WithinLimit}
-use Rattle.plan.proofs.Planning.{is-plan}
+use Rattle.plan.proofs.Systematic.{systematic-at}
+use Rattle.plan.proofs.Planning.{systematic-law, is-plan}
 use Rattle.plan.proofs.Answering.{audited}
 use Rattle.layout.specs.declared.Shape.{Shape}
-use Rattle.reads.specs.Reads.{readCount, group, symbol, ordinal, countsOf}
+use Rattle.reads.specs.Reads.{readCount, group, symbol, ordinal, countsOf, CollisionFreeIn}
 use Rattle.reads.specs.Parts.{Named, Few}
-use Rattle.reads.proofs.Counting.{ordinal-less, request, earlier}
+use Rattle.reads.proofs.Counting.{ordinal-less, request, earlier, at-most-once}
 use Rattle.cycle.specs.Cycle.{pairOf}
 use Rattle.cycle.specs.Served.{PlansAudited}
 
@@ -38,6 +40,13 @@ module _ (sh : Shape) (reads : List ℕ) (range : SymbolsInRange (sh .k)) (named
 
   pub pair-place : (n : ℕ) → n < readCount reads → place (group reads n) n < total (countsOf reads (group reads n))
   pair-place n = place-in (group reads n) n refl
+
+  pub pair-systematic : (n : ℕ) → n < readCount reads → CollisionFreeIn reads (group reads n) → pairOf (sh .k) reads n ≡ systematicPair (symbol reads n)
+  unfolding pairOf
+  pair-systematic n l free =
+      let counts = countsOf reads (group reads n) in
+      ap (λ (pairs : List Pair). pairAt pairs (place (group reads n) n)) (systematic-law (sh .k) counts (at-most-once reads (group reads n) free))
+      ∙ systematic-at counts (symbol reads n) (ordinal reads n) (nth (group reads n) n refl l)
 
   -- of two reads of a group, one for an earlier symbol stands before the other
   before : (x i j : ℕ) → group reads i ≡ x → i < readCount reads → symbol reads i < symbol reads j → place x i < place x j

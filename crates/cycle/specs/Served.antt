@@ -1,4 +1,5 @@
--- What it is for the reads of a cycle to be served: by what stands in the schedule and the output, whoever wrote it there, and by the audit.
+-- What it is for the reads of a cycle to be served: by what stands in the schedule and the output, whoever wrote it there, and by the audit; and
+-- which lines open one bank.
 use mathlib.Core.Path.{_≡_}
 use mathlib.Core.List.{List}
 use Prim.Native.Nat.{ℕ, _*_, _<_}
@@ -7,9 +8,10 @@ use Rattle.simplex.specs.Limit.{In}
 use Rattle.audit.specs.declared.Audited.the-variants.{Yes}
 use Rattle.audit.specs.Plan.{Pair, opened, Serves}
 use Rattle.audit.specs.Audit.{pairIn, pairBytes, auditOf}
+use Rattle.plan.specs.Systematic.{systematicPair}
 use Rattle.plan.specs.Finding.{planOf}
 use Rattle.layout.specs.declared.Shape.{Shape}
-use Rattle.reads.specs.Reads.{readCount, row, group, symbol, countsOf}
+use Rattle.reads.specs.Reads.{readCount, row, group, symbol, countsOf, CollisionFreeIn}
 use Rattle.cycle.specs.Cycle.{xorOfCells}
 
 -- Line n of a schedule.
@@ -25,6 +27,11 @@ pub record ServedRead (sh : Shape) (s reads out schedule : List ℕ) (n : ℕ) :
 -- The audit says yes to the plan of each group.
 abbrev pub PlansAudited : Shape → List ℕ → Type 0
 PlansAudited sh reads = (x : ℕ) → x < sh .m → auditOf (sh .k) (countsOf reads x) (pairBytes (planOf (sh .k) (countsOf reads x))) ≡ Yes
+
+-- In a group of which no two reads are for the same symbol, every line opens the systematic bank of its read's symbol, and no other.
+abbrev pub SystematicLines : (reads schedule : List ℕ) → Type 0
+SystematicLines reads schedule =
+    (n : ℕ) → n < readCount reads → CollisionFreeIn reads (group reads n) → line schedule n ≡ systematicPair (symbol reads n)
 
 -- No bank, which is a group and a number, stands in the lines of two reads, whichever rows they name.
 abbrev pub OpenedOnce : (reads schedule : List ℕ) → Type 0

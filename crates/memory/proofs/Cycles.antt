@@ -26,9 +26,9 @@ use Rattle.reads.proofs.Counting.{reads-many}
 use Rattle.reads.proofs.Accepted.{form-named}
 use Rattle.reads.proofs.Refused.{over}
 use Rattle.cycle.specs.Cycle.{xorOfCells, packetsOut, linesOut}
-use Rattle.cycle.specs.Served.{OpenedOnce, PlansAudited}
+use Rattle.cycle.specs.Served.{PlansAudited, SystematicLines, OpenedOnce}
 use Rattle.cycle.proofs.Pairs.{plans-audited}
-use Rattle.cycle.proofs.Lines.{served-read, opened-once}
+use Rattle.cycle.proofs.Lines.{systematic-lines, served-read, opened-once}
 use Rattle.memory.specs.declared.State.{State}
 use Rattle.memory.specs.declared.Answer.the-variants.{Served, Refused as NotDone}
 use Rattle.memory.specs.State.{isFull, sound, Sound}
@@ -142,6 +142,11 @@ module _ (st : State) (s reads out schedule : List ℕ) where
   audited : answerBy Served refusal ≡ Served → PlansAudited sh reads
   audited e = let f = facts e in plans-audited sh reads (sound-words st (f .state) .ranges .symbols) (f .list .named) (f .list .few)
 
+  systematic : answerBy Served refusal ≡ Served → SystematicLines reads (cycleSchedule st s reads out schedule)
+  systematic e =
+      let f = facts e in
+      rw (answered refusal e) (systematic-lines sh reads schedule (f .list .schedule-size) (ok f .ranges .symbols) (f .list .named))
+
   -- ---- the promise of a cycle, by its verdict
 
   pub promised : (v w : Verdict) → refusal ≡ v → v ≡ w → (out' schedule' : List ℕ)
@@ -149,12 +154,13 @@ module _ (st : State) (s reads out schedule : List ℕ) where
       → (record { state = st; answer = answerBy Served w } ≡ cycleOutcome st (length s) reads (length out) (length schedule))
       × ((out' ≡ cycleOutput st s reads out schedule)
       × ((schedule' ≡ cycleSchedule st s reads out schedule)
-      × (Demand3 st s reads (length out) (length schedule) (answerBy Served w) out' schedule' × (answerBy Served w ≡ Served → PlansAudited sh reads))))
+      × (Demand3 st s reads (length out) (length schedule) (answerBy Served w) out' schedule'
+      × ((answerBy Served w ≡ Served → PlansAudited sh reads) × (answerBy Served w ≡ Served → SystematicLines reads schedule')))))
   promised v w e same out' schedule' packets lines =
       let a : w ≡ refusal = sym (e ∙ same) in
       let b : out' ≡ cycleOutput st s reads out schedule = rw e packets in
       let c : schedule' ≡ cycleSchedule st s reads out schedule = rw e lines in
-      (rw a, (b, (c, (rw (a, b, c) demand3, rw a audited))))
+      (rw a, (b, (c, (rw (a, b, c) demand3, (rw a audited, rw (a, c) systematic)))))
 
 -- ---- the packet of a pair, where the cells of its row are those of the code
 

@@ -9,7 +9,7 @@ ghost use Rattle.simplex.specs.Filling.{packetsOf};
 ghost use Rattle.layout.specs.Shape.{mostRows, InRange, storeSize, generationSize};
 ghost use Rattle.memory.specs.State.{sound, withFull, rowToggled};
 ghost use Rattle.memory.specs.Operations.{setUpOf, outcomeBy, storeRefusal, writeRefusal, groupWritten, rowWritten, writeOutcome, writeStore, releaseRefusal, releaseOutcome, eachRow, releaseSetRefusal, releaseSetOutcome, cycleOutcome, cycleOutput, cycleSchedule};
-ghost use Rattle.cycle.specs.Served.{PlansAudited};
+ghost use Rattle.cycle.specs.Served.{PlansAudited, SystematicLines};
 ghost use Rattle.memory.specs.declared.Answer.the-variants.{FullRows, Served, Refused};
 ghost use Rattle.memory.specs.Demand3.{Demand3};
 ghost use Rattle.memory.specs.Laws.{TheMemory};
@@ -256,8 +256,8 @@ impl State {
     }
 
     // Serves a list of reads (01: asks; three bytes each: row, group, symbol) in one cycle: the packets to the output, P bytes each, and the banks
-    // opened for each to the schedule (01: the sheet), two bytes each; or refuses: 5, 6, 13, read by read 7, 14, 15, 9, then 12, 16. The store is lent
-    // for reading only.
+    // opened for each to the schedule (01: the sheet), two bytes each, systematic banks alone in a group where no symbol is read more than once; or
+    // refuses: 5, 6, 13, read by read 7, 14, 15, 9, then 12, 16. The store is lent for reading only.
     pub fn read_cycle(
         self,
         store: &[u8],
@@ -270,6 +270,7 @@ impl State {
         ensures lines { λ _. ⌜ now (schedule .exit) ≡ cycleSchedule self (now (store .entry)) (now (reads .entry)) (now (out .entry)) (now (schedule .entry)) ⌝ }
         ensures demand3 { λ r. ⌜ Demand3 self (now (store .entry)) (now (reads .entry)) (length (now (out .entry))) (length (now (schedule .entry))) (r .answer) (now (out .exit)) (now (schedule .exit)) ⌝ }
         ensures plans { λ r. ⌜ (r .answer ≡ Served → PlansAudited (self .shape) (now (reads .entry))) ⌝ }
+        ensures systematic { λ r. ⌜ (r .answer ≡ Served → SystematicLines (now (reads .entry)) (now (schedule .exit))) ⌝ }
     {
         let lent = judge_store(self, store.len());
         if let Verdict::Refused(number, place) = lent {

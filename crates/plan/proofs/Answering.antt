@@ -1,10 +1,9 @@
 -- The planner's answer, from what its parts say.
-use mathlib.Core.Path.{_≡_, refl, sym, ap, _∙_, subst}
+use mathlib.Core.Path.{_≡_, sym, ap, _∙_, subst}
 use mathlib.Core.Logic.{_↔_}
 use mathlib.Core.Bool.{true, false}
-use mathlib.Core.List.{List, [], _∷_}
-use Prim.Native.Nat.{ℕ}
-use native.Mathlib.Omega.{arith}
+use mathlib.Core.List.{List, []}
+use Prim.Native.Nat.{ℕ, _≤_}
 use borrow.Author.Tests.{le-leb, leb-true}
 use lib.Dec.{leb}
 use lib.ListN.{length}
@@ -12,7 +11,7 @@ use Rattle.refusals.specs.declared.Verdict.{Verdict}
 use Rattle.refusals.specs.declared.Verdict.the-variants.{Accepted, Refused}
 use Rattle.refusals.specs.Verdict.{check, ifRefused}
 use Rattle.refusals.proofs.Verdicts.{first-accepted, next-accepted, check-passed}
-use Rattle.simplex.specs.Shape.{mostSymbols, limitOf}
+use Rattle.simplex.specs.Shape.{mostSymbols, mostPairs, limitOf}
 use Rattle.simplex.specs.Limit.{total}
 use Rattle.audit.specs.declared.Audited.the-variants.{Yes}
 use Rattle.audit.specs.Plan.{Pair, isPlan}
@@ -20,15 +19,12 @@ use Rattle.audit.specs.Audit.{countsRefusal, pairBytes, auditOf}
 use Rattle.audit.proofs.Served.{few}
 use Rattle.audit.proofs.Answer.{request, accepted, says-yes, pairs-bytes, even-bytes}
 use Rattle.plan.specs.declared.Planned.{Planned}
+use Rattle.plan.specs.Systematic.{CollisionFree, systematicPlan}
 use Rattle.plan.specs.Finding.{planOf}
-use Rattle.plan.specs.Planned.{planRefusal, stored, planAnswer, PlanFor}
+use Rattle.plan.specs.Planned.{planRefusal, stored, planAnswer, pairsIn, PlanFor}
 use Rattle.plan.specs.Laws.{WithinLimit}
-use Rattle.plan.proofs.Planning.{is-plan, passes}
+use Rattle.plan.proofs.Planning.{systematic-law, is-plan, passes}
 use Rattle.plan.proofs.Storing.{read-back}
-
-no-pairs : (pairs : List Pair) → length pairs ≡ 0 → [] ≡ pairs
-no-pairs [] e = refl
-no-pairs (p ∷ pairs) e = absurd (omega arith)
 
 module _ (K : ℕ) (counts : List ℕ) where
   pub refused : (number place : ℕ) → countsRefusal K counts ≡ Refused number place
@@ -48,12 +44,6 @@ module _ (K : ℕ) (counts : List ℕ) where
     pub within : length counts ≡ mostSymbols → leb (total counts) (limitOf K) ≡ true → WithinLimit K counts
     within n f = record { request = request K counts n e; total-most = leb-true (total counts) (limitOf K) f }
 
-    -- no reads have no pairs
-    pub unasked : WithinLimit K counts → total counts ≡ 0 → record { verdict = Accepted; plan = stored [] } ≡ planAnswer K counts
-    unasked w none =
-        ap (λ (pairs : List Pair). record { verdict = Accepted; plan = stored pairs }) (no-pairs (planOf K counts) (is-plan K counts w .one-each ∙ none))
-        ∙ served (le-leb (total counts) (limitOf K) (w .total-most))
-
   pub exactly : length counts ≡ mostSymbols → (planRefusal K counts ≡ Accepted) ↔ WithinLimit K counts
   unfolding planRefusal
   exactly n = (
@@ -69,20 +59,26 @@ module _ (K : ℕ) (counts : List ℕ) where
       says-yes K counts (pairBytes (planOf K counts)) (accepted K counts (w .request)) (even-bytes (planOf K counts))
       (ap (isPlan K counts) (pairs-bytes (planOf K counts)) ∙ passes K counts w)
 
+  fits : length counts ≡ mostSymbols → planRefusal K counts ≡ Accepted → length (planOf K counts) ≤ mostPairs
+  fits n e = let w = exactly n .0 e in few K counts (planOf K counts) (w .request .symbols .most) (passes K counts w)
+
   -- the plan of an accepted request, read back from its arrays
   plan-for : length counts ≡ mostSymbols → planRefusal K counts ≡ Accepted → PlanFor K counts (stored (planOf K counts))
   plan-for n e =
       let w = exactly n .0 e in
-      let pairs = planOf K counts in
-      let fits = few K counts pairs (w .request .symbols .most) (passes K counts w) in
       record {
         reads = is-plan K counts w .one-each;
-        audited = ap (λ (ps : List Pair). auditOf K counts (pairBytes ps)) (read-back pairs fits) ∙ audited w;
+        audited = ap (λ (ps : List Pair). auditOf K counts (pairBytes ps)) (read-back (planOf K counts) (fits n e)) ∙ audited w;
       }
 
-  -- so an answer that is the definition's has such a plan
-  pub valid : length counts ≡ mostSymbols → (r : Planned) → r ≡ planAnswer K counts → planRefusal K counts ≡ Accepted → PlanFor K counts (r .plan)
-  unfolding planAnswer
-  valid n r e a =
-      let same : r .plan ≡ stored (planOf K counts) = ap (λ (x : Planned). x .plan) e ∙ ap (λ (v : Verdict). stored (ifRefused [] (planOf K counts) v)) a in
-      subst (PlanFor K counts) (sym same) (plan-for n a)
+  -- so an answer that is the definition's keeps the promise
+  module _ (n : length counts ≡ mostSymbols) (r : Planned) (e : r ≡ planAnswer K counts) where
+    same : planRefusal K counts ≡ Accepted → r .plan ≡ stored (planOf K counts)
+    unfolding planAnswer
+    same a = ap (λ (x : Planned). x .plan) e ∙ ap (λ (v : Verdict). stored (ifRefused [] (planOf K counts) v)) a
+
+    pub kept : (planRefusal K counts ≡ Accepted → PlanFor K counts (r .plan)) × (planRefusal K counts ≡ Accepted → CollisionFree counts → pairsIn (r .plan) ≡ systematicPlan counts)
+    kept = (
+      λ a. subst (PlanFor K counts) (sym (same a)) (plan-for n a),
+      λ a free. ap pairsIn (same a) ∙ read-back (planOf K counts) (fits n a) ∙ systematic-law K counts free,
+    )

@@ -1,4 +1,5 @@
--- The proofs of the crate: renaming, sorting, and that the planner's plan is one.
+-- The proofs of the crate: systematic banks alone, renaming, sorting, and that the planner's plan is one.
+pub mod Systematic
 pub mod Permuting
 pub mod Renamed
 pub mod Renaming

@@ -1,4 +1,5 @@
 -- The definitions of the crate: what the planner answers, and how a plan is found.
+pub mod Systematic
 pub mod Renaming
 pub mod Finding
 pub mod Planned

@@ -6,17 +6,18 @@ use mathlib.Core.List.{List, [], _∷_, _++_}
 use Prim.Native.Nat.{ℕ, zero, suc, _+_, _*_, _≤_, _<_}
 use native.Mathlib.Nat.{eq-or-lt-of-le, le-of-suc-le-suc, not-suc-le-zero, add-zero}
 use native.Mathlib.Omega.{arith}
-use borrow.Author.Tests.{eq-eqb, ne-eqb, ltb-true, ltb-false}
+use borrow.Author.Tests.{eq-eqb, ne-eqb, eqb-true, ltb-true, ltb-false}
 use lib.Dec.{eqb, ltb}
 use lib.ListN.{length, getD, length-append, List·getD-eq-default}
 use Rattle.bits.specs.Marks.{howMany}
-use Rattle.bits.proofs.Marks.{none-passed}
+use Rattle.bits.proofs.Marks.{none-passed, many-one}
+use Rattle.refusals.proofs.Verdicts.{both}
 use Rattle.simplex.specs.Shape.{mostSymbols, SymbolsInRange}
 use Rattle.simplex.specs.Limit.{total}
 use Rattle.audit.specs.Audit.{RequestOf}
 use Rattle.table.specs.Grouped.{listOf}
 use Rattle.table.proofs.Grouped.{length-of, of-at}
-use Rattle.reads.specs.Reads.{readCount, group, symbol, isFor, countOf, ordinal, countsOf, symbolsRead, readsIn}
+use Rattle.reads.specs.Reads.{readCount, group, symbol, isFor, countOf, ordinal, countsOf, CollisionFreeIn, symbolsRead, readsIn}
 
 -- a read that is counted stands before those that follow it
 count-more : (reads : List ℕ) (x i n m : ℕ) → n < m → countOf reads x i n + cond (isFor reads x i n) 1 0 ≤ countOf reads x i m
@@ -63,6 +64,34 @@ request K reads x range small = record { symbols = range; size = size; beyond = 
         count-at reads x i (ltb-true i mostSymbols e)
         ∙ none-passed (isFor reads x i) (readCount reads) (λ n b. not-for reads x i n (λ q. omega (arith, small n b)))
     beyond i l false e = List·getD-eq-default (countsOf reads x) 0 {n = i} (omega (arith, size, ltb-false i mostSymbols e))
+
+-- ---- no two reads of a group are for the same symbol exactly where no count is above 1
+
+for-both : (reads : List ℕ) (x i n : ℕ) → isFor reads x i n ≡ true → (group reads n ≡ x) × (symbol reads n ≡ i)
+for-both reads x i n e =
+    let t = both (eqb (group reads n) x) (eqb (symbol reads n) i) .0 e in (eqb-true (group reads n) x (t .0), eqb-true (symbol reads n) i (t .1))
+
+pub at-most-once : (reads : List ℕ) (x : ℕ) → CollisionFreeIn reads x → (i : ℕ) → getD (countsOf reads x) i 0 ≤ 1
+at-most-once reads x free i = go (ltb i mostSymbols) refl
+  where
+    apart : (n m : ℕ) → n < m → m < readCount reads → isFor reads x i n ≡ true → isFor reads x i m ≡ true → ⊥
+    apart n m l u p q =
+        let a = for-both reads x i n p in
+        let b = for-both reads x i m q in
+        free n m (omega arith) u (omega arith) (b .0) (a .1 ∙ sym (b .1))
+
+    go : (t : Bool) → ltb i mostSymbols ≡ t → getD (countsOf reads x) i 0 ≤ 1
+    go true e = rw (count-at reads x i (ltb-true i mostSymbols e)) (many-one (isFor reads x i) (readCount reads) apart)
+    go false e =
+        let past : length (countsOf reads x) ≤ i = omega (arith, length-of (λ i. countOf reads x i (readCount reads)) 0 mostSymbols, ltb-false i mostSymbols e) in
+        rw (List·getD-eq-default (countsOf reads x) 0 {n = i} past) (omega arith)
+
+pub none-twice : (reads : List ℕ) (x : ℕ) → ((n : ℕ) → n < readCount reads → symbol reads n < mostSymbols)
+    → ((i : ℕ) → getD (countsOf reads x) i 0 ≤ 1) → CollisionFreeIn reads x
+none-twice reads x small few m n l u at-m at-n same =
+    let i = symbol reads n in
+    let last : n < readCount reads = omega arith in
+    omega (arith, few i, count-at reads x i (small n last), for-more reads x i m n l at-m (omega arith), for-more reads x i n (readCount reads) last at-n refl)
 
 -- ---- the reads of a group are as many as its counts total
 

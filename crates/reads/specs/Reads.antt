@@ -1,7 +1,8 @@
 -- The list of a read cycle: three bytes for each read (01: an ask), which are its row, its group and its symbol.
+use mathlib.Core.Path.{_≡_}
 use mathlib.Core.Bool.{Bool, cond, _&&_}
 use mathlib.Core.List.{List, [], _∷_, _++_}
-use Prim.Native.Nat.{ℕ, zero, suc, _+_, _*_, _/_}
+use Prim.Native.Nat.{ℕ, zero, suc, _+_, _*_, _/_, _<_}
 use lib.Dec.{eqb}
 use lib.ListN.{length, getD}
 use Rattle.bits.specs.Marks.{howMany}
@@ -40,6 +41,11 @@ ordinal reads n = countOf reads (group reads n) (symbol reads n) n
 -- The counts of group x, over the whole list and so over all rows.
 abbrev pub countsOf : List ℕ → ℕ → List ℕ
 countsOf reads x = listOf (λ i. countOf reads x i (readCount reads)) 0 mostSymbols
+
+-- No two reads of group x are for the same symbol, in whichever rows they are (02: nobody collides).
+abbrev pub CollisionFreeIn : List ℕ → (x : ℕ) → Type 0
+CollisionFreeIn reads x =
+    (m n : ℕ) → m < n → n < readCount reads → group reads m ≡ x → group reads n ≡ x → symbol reads m ≡ symbol reads n → ⊥
 
 -- The symbols of the first n reads of group x, in their order.
 unfoldable pub symbolsRead : List ℕ → (x n : ℕ) → List ℕ

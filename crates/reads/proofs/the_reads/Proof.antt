@@ -7,7 +7,7 @@ use native.Mathlib.Omega.{arith}
 use Rattle.refusals.specs.declared.Verdict.the-variants.{Accepted}
 use Rattle.layout.specs.declared.Shape.{Shape}
 use Rattle.reads.specs.Refusals.{listRefusal}
-use Rattle.reads.proofs.Counting.{reads-many}
+use Rattle.reads.proofs.Counting.{reads-many, at-most-once, none-twice}
 use Rattle.reads.proofs.Accepted.{accepted}
 use Rattle.reads.proofs.the_reads.Statement.{statement}
 use Rattle.reads.proofs.the_reads.Tie as tie
@@ -25,7 +25,11 @@ empty sh full =
     })
 
 returns : tie.Need-returns
-returns c = record { counted = reads-many; empty = empty }
+returns c = record {
+  counted = reads-many;
+  collisions = λ reads x small. (at-most-once reads x, none-twice reads x small);
+  empty = empty;
+}
 
 pub the-reads-spec : {M : Type 1} → statement M
 the-reads-spec = tie.close (tie.spec returns)
