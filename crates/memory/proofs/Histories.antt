@@ -20,6 +20,7 @@ use Rattle.simplex.specs.Code.{bankCell}
 use Rattle.simplex.proofs.Filling.{length-packets}
 use Rattle.audit.specs.Plan.{opened}
 use Rattle.layout.specs.declared.Shape.{Shape}
+use Rattle.rows.specs.Rows.{packetsIn, packetIn, rowWritten}
 use Rattle.reads.specs.Reads.{readCount, row, group, symbol}
 use Rattle.reads.proofs.Accepted.{judged-alike}
 use Rattle.cycle.specs.Cycle.{xorOfCells}
@@ -29,7 +30,7 @@ use Rattle.memory.specs.declared.Outcome.{Outcome}
 use Rattle.memory.specs.declared.Answer.the-variants.{FullRows, Served}
 use Rattle.layout.specs.Shape.{shapeRefusal, storeSize, generationSize, CellOf, cellAt}
 use Rattle.memory.specs.State.{isFull, fullRows, empty, rowToggled, rowsEmptied, Sound}
-use Rattle.memory.specs.Operations.{answerBy, outcomeBy, packetsIn, packetIn, rowWritten, writeRefusal, releaseRefusal, releaseSetRefusal, cycleRefusal, cycleSchedule}
+use Rattle.memory.specs.Operations.{answerBy, outcomeBy, writeRefusal, releaseRefusal, releaseSetRefusal, cycleRefusal, cycleSchedule}
 use Rattle.memory.specs.History.{Operation, write, release, releaseSet, read, History, Memory, outcomeOf, storeAfter, run}
 use Rattle.memory.specs.History.{verdictIn, toldBy, fullBy, writtenBy, fullIn, lastWritten, filledBy, emptiedBy, inAll, Returned, Remembers, AfterAnyHistory}
 use Rattle.layout.proofs.Ranges.{range-words}
@@ -37,7 +38,7 @@ use Rattle.memory.proofs.States.{words-sound}
 use Rattle.memory.proofs.Accepted.{Writable, Releasable, written-facts, released-facts}
 use Rattle.memory.proofs.Toggling.{toggled-sound, row-filled, row-emptied}
 use Rattle.memory.proofs.Emptying.{rows-alike, set-released-facts, emptied-rows, emptied-sound, emptied-count}
-use Rattle.memory.proofs.Writing.{packet-in, packets-in-sized, row-written, other-rows}
+use Rattle.rows.proofs.Writing.{packet-in, packets-in-sized, row-written, other-rows}
 use Rattle.memory.proofs.Cycles.{serves-all, facts, coded-packet}
 
 -- ---- what every operation keeps

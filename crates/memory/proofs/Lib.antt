@@ -4,7 +4,5 @@ pub mod Accepted
 pub mod Toggling
 pub mod Emptying
 pub mod Singly
-pub mod Writing
-pub mod Groups
 pub mod Cycles
 pub mod Histories

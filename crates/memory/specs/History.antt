@@ -18,12 +18,13 @@ use Rattle.memory.specs.declared.Outcome.{Outcome}
 use Rattle.memory.specs.declared.Answer.{Answer}
 use Rattle.memory.specs.declared.Answer.the-variants.{FullRows, Served}
 use Rattle.layout.specs.Shape.{mostRows, storeSize, generationSize, CellOf, cellAt}
+use Rattle.rows.specs.Rows.{packetsIn, packetIn}
 use Rattle.reads.specs.Reads.{readCount, row, group, symbol}
 use Rattle.reads.specs.Refusals.{listRefusal}
 use Rattle.cycle.specs.Cycle.{xorOfCells}
 use Rattle.cycle.specs.Served.{line}
 use Rattle.memory.specs.State.{isFull, fullRows, Sound}
-use Rattle.memory.specs.Operations.{setUpOf, answerBy, packetsIn, packetIn, writeChecks, writeOutcome, writeStore, releaseChecks, releaseOutcome, releaseSetChecks, releaseSetOutcome, cycleOutcome, cycleOutput, cycleSchedule}
+use Rattle.memory.specs.Operations.{setUpOf, answerBy, writeChecks, writeOutcome, writeStore, releaseChecks, releaseOutcome, releaseSetChecks, releaseSetOutcome, cycleOutcome, cycleOutput, cycleSchedule}
 
 -- What may be asked of a memory: a write of a generation to a row, a release of a row or of a row set, a read cycle with its list and its buffers.
 pub data Operation : Type 0 where

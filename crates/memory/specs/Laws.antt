@@ -5,30 +5,17 @@ use mathlib.Core.Bool.{Bool, true, false, cond, not}
 use mathlib.Core.List.{List, [], _∷_}
 use Prim.Native.Nat.{ℕ, suc, _+_, _^_, _<_}
 use lib.Dec.{eqb, leb}
-use lib.ListN.{length, getD}
+use lib.ListN.{length}
 use Rattle.bits.specs.Bits.{bit}
 use Rattle.bits.specs.Marks.{marked, howMany}
 use Rattle.refusals.specs.declared.Verdict.the-variants.{Accepted, Refused}
-use Rattle.cells.specs.Cell.{Outside}
-use Rattle.simplex.specs.Code.{bankCell}
-use Rattle.layout.specs.declared.Shape.{Shape}
+use Rattle.rows.specs.Laws.{Written}
 use Rattle.memory.specs.declared.State.{State}
 use Rattle.memory.specs.declared.Answer.the-variants.{FullRows, Refused as NotDone}
-use Rattle.layout.specs.Shape.{mostRows, CellOf, offset, cellAt}
+use Rattle.layout.specs.Shape.{mostRows}
 use Rattle.memory.specs.State.{isFull, fullRows, sound, Sound}
-use Rattle.memory.specs.Operations.{packetsIn, packetIn, writeRefusal, writeOutcome, writeStore, releaseRefusal, releaseOutcome, releaseSetRefusal, releaseSetOutcome}
+use Rattle.memory.specs.Operations.{writeRefusal, writeOutcome, writeStore, releaseRefusal, releaseOutcome, releaseSetRefusal, releaseSetOutcome}
 use Rattle.memory.specs.History.{Operation, Memory, outcomeOf, AfterAnyHistory}
-
--- The byte i of the store lies in no cell of this row.
-abbrev pub OutsideRow : Shape → (row i : ℕ) → Type 0
-OutsideRow sh row i = (x b : ℕ) → CellOf sh x b row → Outside (sh .p) (offset sh x b row) i
-
--- Of a store s and the store after a generation was written to a row: each cell of the row, in all groups, is what the code puts there for the
--- generation's packets, and every other byte is as it was.
-pub record Written (sh : Shape) (row : ℕ) (generation s after : List ℕ) : Type 0 where
-  pub size : length after ≡ length s
-  pub cells : (x b : ℕ) → CellOf sh x b row → cellAt sh after x b row ≡ bankCell (sh .p) (packetsIn sh generation x) b
-  pub others : (i : ℕ) → OutsideRow sh row i → getD after i 0 ≡ getD s i 0
 
 -- The row is empty in the one state and full in the other, and all else is the same: so the other has one full row more.
 pub record OneMore (row : ℕ) (fewer more : State) : Type 0 where
@@ -73,7 +60,6 @@ ReleasedSingly before (row ∷ rows) after =
     (releaseRefusal before row ≡ Accepted) × ReleasedSingly (releaseOutcome before row .state) rows after
 
 -- states: "not broken" in words. broken: any other state is refused with 5, whatever is asked.
--- packets: packet i of group x stands where a generation with the packets of group 0 in symbol order, then group 1, and so on, has it.
 -- written: an accepted write makes its row full and sets the cells of that row alone. released: an accepted release makes a full row empty.
 -- setReleased: an accepted release of a row set empties its rows and no other. emptySet: the empty set is accepted, and nothing changes.
 -- seven, nine: it is refused with 7 at r just where r is its first row that is G or more; with 9 just where there is none, and r is its first empty row.
@@ -84,8 +70,6 @@ pub record TheMemory : Type 0 where
   pub states : (st : State) → (sound st ≡ true) ↔ Sound st
   pub broken : (memory : Memory) → (Sound (memory .state) → ⊥) → (operation : Operation)
       → outcomeOf memory operation ≡ record { state = memory .state; answer = NotDone 5 0 }
-  pub packets : (sh : Shape) (generation : List ℕ) (x i : ℕ) → i < sh .k
-      → getD (packetsIn sh generation x) i [] ≡ packetIn sh generation x i
   pub written : (st : State) (s : List ℕ) (row : ℕ) (generation : List ℕ) → writeRefusal st (length s) row (length generation) ≡ Accepted
       → Written (st .shape) row generation s (writeStore st s row generation) × OneMore row st (writeOutcome st (length s) row (length generation) .state)
   pub released : (st : State) (row : ℕ) → releaseRefusal st row ≡ Accepted → OneMore row (releaseOutcome st row .state) st

@@ -1,17 +1,15 @@
 -- Set-up, write, release of a row or of a row set, and the read cycle: when each is refused, what it answers, and what state, store and buffers it leaves.
 use mathlib.Core.Bool.{Bool, not, _||_}
 use mathlib.Core.List.{List}
-use Prim.Native.Nat.{ℕ, zero, suc, _+_, _*_}
+use Prim.Native.Nat.{ℕ}
 use lib.Dec.{eqb, ltb}
 use lib.ListN.{length}
 use Rattle.bits.specs.Marks.{marked}
 use Rattle.refusals.specs.declared.Verdict.{Verdict}
 use Rattle.refusals.specs.declared.Verdict.the-variants.{Accepted, Refused}
 use Rattle.refusals.specs.Verdict.{check, _then_, ifRefused, firstRefusal}
-use Rattle.cells.specs.Cell.{cell}
-use Rattle.simplex.specs.Code.{Packet}
-use Rattle.simplex.specs.Filling.{packetsOf, filled}
 use Rattle.layout.specs.declared.Shape.{Shape}
+use Rattle.rows.specs.Rows.{rowWritten}
 use Rattle.reads.specs.Refusals.{listRefusal}
 use Rattle.cycle.specs.Cycle.{packetsOut, linesOut}
 use Rattle.memory.specs.declared.State.{State}
@@ -19,7 +17,7 @@ use Rattle.memory.specs.declared.SetUp.{SetUp}
 use Rattle.memory.specs.declared.Outcome.{Outcome}
 use Rattle.memory.specs.declared.Answer.{Answer}
 use Rattle.memory.specs.declared.Answer.the-variants.{FullRows, Served, Refused as NotDone}
-use Rattle.layout.specs.Shape.{mostRows, shapeRefusal, banks, storeSize, generationSize, offset}
+use Rattle.layout.specs.Shape.{mostRows, shapeRefusal, storeSize, generationSize}
 use Rattle.memory.specs.State.{isFull, fullRows, sound, empty, zeroState, rowToggled, rowsEmptied}
 
 -- What set-up gives: a memory of that shape with every row empty, or a refusal and a state of zeros.
@@ -49,27 +47,6 @@ writeChecks sh full row len = check 7 0 (ltb row (sh .g)) then check 8 0 (not (f
 -- 5 and 6; then 7, 8, 10.
 unfoldable pub writeRefusal : State → (size row len : ℕ) → Verdict
 writeRefusal st size row len = storeRefusal st size then writeChecks (st .shape) (isFull st) row len
-
--- The packets of group x: a generation has those of group 0 in symbol order, then those of group 1, and so on.
-abbrev pub packetsIn : Shape → List ℕ → ℕ → List Packet
-packetsIn sh generation x = packetsOf (sh .p) (sh .k) (cell generation (x * (sh .k * sh .p)) (sh .k * sh .p))
-
--- Packet i of group x.
-abbrev pub packetIn : Shape → List ℕ → (x i : ℕ) → Packet
-packetIn sh generation x i = cell generation ((x * sh .k + i) * sh .p) (sh .p)
-
--- The store s with the cells of all banks of group x in a row put in, for a group of these packets.
-abbrev pub groupWritten : Shape → (x row : ℕ) → List Packet → List ℕ → List ℕ
-groupWritten sh x row packets s = filled (sh .p) packets (λ b. offset sh x b row) (banks sh) s
-
--- The same for the first n groups of a generation.
-unfoldable pub groupsWritten : Shape → (row : ℕ) → (generation : List ℕ) → (n : ℕ) → (s : List ℕ) → List ℕ
-groupsWritten sh row generation zero s = s
-groupsWritten sh row generation (suc x) s = groupWritten sh x row (packetsIn sh generation x) (groupsWritten sh row generation x s)
-
--- The same for all m groups: the store after a write.
-abbrev pub rowWritten : Shape → (row : ℕ) → (generation s : List ℕ) → List ℕ
-rowWritten sh row generation s = groupsWritten sh row generation (sh .m) s
 
 abbrev pub writeOutcome : State → (size row len : ℕ) → Outcome
 writeOutcome st size row len = outcomeBy st (rowToggled st row) (writeRefusal st size row len)

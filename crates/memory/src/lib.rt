@@ -1,14 +1,13 @@
 // A memory: its state, and the operations that set it up, write a row, release one or several and read packets.
 ghost use mathlib.Core.Path.{_≡_};
 ghost use mathlib.Core.Bool.{true};
-ghost use Prim.Native.Nat.{_*_, _<_};
+ghost use Prim.Native.Nat.{_<_};
 ghost use lib.ListN.{length};
 ghost use Rattle.bits.specs.Marks.{marked, howMany};
 ghost use Rattle.refusals.specs.declared.Verdict.the-variants.{Accepted};
-ghost use Rattle.simplex.specs.Filling.{packetsOf};
-ghost use Rattle.layout.specs.Shape.{mostRows, InRange, storeSize, generationSize};
+ghost use Rattle.layout.specs.Shape.{mostRows};
 ghost use Rattle.memory.specs.State.{sound, withFull, rowToggled};
-ghost use Rattle.memory.specs.Operations.{setUpOf, outcomeBy, storeRefusal, writeRefusal, groupWritten, rowWritten, writeOutcome, writeStore, releaseRefusal, releaseOutcome, eachRow, releaseSetRefusal, releaseSetOutcome, cycleOutcome, cycleOutput, cycleSchedule};
+ghost use Rattle.memory.specs.Operations.{setUpOf, outcomeBy, storeRefusal, writeRefusal, writeOutcome, writeStore, releaseRefusal, releaseOutcome, eachRow, releaseSetRefusal, releaseSetOutcome, cycleOutcome, cycleOutput, cycleSchedule};
 ghost use Rattle.cycle.specs.Served.{PlansAudited, SystematicLines};
 ghost use Rattle.memory.specs.declared.Answer.the-variants.{FullRows, Served, Refused};
 ghost use Rattle.memory.specs.Demand3.{Demand3};
@@ -134,33 +133,6 @@ fn judge_release_set(state: State, set: u64) -> Verdict
     judge_rows(9, set, state.full)
 }
 
-// Sets the cells of all banks of group x in a row, from the group's packets.
-fn write_group(store: &mut [u8], shape: Shape, x: usize, row: usize, packets: &[u8])
-    requires { ⌜ InRange shape × (x < shape .m) × (row < shape .g) ⌝ }
-    requires { ⌜ (length (now store) ≡ storeSize shape) × (length (now packets) ≡ shape .k * shape .p) ⌝ }
-    ensures { λ _. ⌜ now (store .exit) ≡ groupWritten shape x row (packetsOf (shape .p) (shape .k) (now (packets .entry))) (now (store .entry)) ⌝ }
-{
-    let at = layout::offset_of(shape, x, 1, row);
-    simplex::fill_group(store, at, shape.g * shape.p, packets, shape.p, shape.k)
-}
-
-// Sets the cells of all banks of all groups in a row, from a generation.
-fn write_row(store: &mut [u8], shape: Shape, row: usize, generation: &[u8])
-    requires { ⌜ InRange shape × (row < shape .g) ⌝ }
-    requires { ⌜ (length (now store) ≡ storeSize shape) × (length (now generation) ≡ generationSize shape) ⌝ }
-    ensures { λ _. ⌜ now (store .exit) ≡ rowWritten shape row (now (generation .entry)) (now (store .entry)) ⌝ }
-{
-    let groups = shape.m;
-    let len = shape.k * shape.p;
-    let mut x = 0;
-    let mut q = 0;
-    while x < groups {
-        write_group(store, shape, x, row, &generation[q..q + len]);
-        q += len;
-        x += 1;
-    }
-}
-
 impl State {
     // Sets up a memory with every row empty, or refuses the shape: 1 to 4.
     pub fn set_up(k: usize, m: usize, p: usize, g: usize) -> SetUp
@@ -228,7 +200,7 @@ impl State {
         if let Verdict::Refused(number, place) = verdict {
             return self.refuse(number, place);
         }
-        write_row(store, self.shape, row, generation);
+        rows::write_row(store, self.shape, row, generation);
         self.toggle_row(row)
     }
 

@@ -20,7 +20,8 @@ use Rattle.cycle.specs.Cycle.{packetOf, packetsOut}
 use Rattle.memory.specs.declared.State.{State}
 use Rattle.memory.specs.declared.Answer.{Answer}
 use Rattle.memory.specs.declared.Answer.the-variants.{Served}
-use Rattle.memory.specs.Operations.{setUpOf, answerBy, packetIn, cycleRefusal, cycleOutput}
+use Rattle.rows.specs.Rows.{packetIn}
+use Rattle.memory.specs.Operations.{setUpOf, answerBy, cycleRefusal, cycleOutput}
 use Rattle.memory.specs.History.{Operation, write, release, History, Memory, outcomeOf, storeAfter, step, run, verdictIn, fullIn, lastWritten, Remembers}
 use Rattle.memory.proofs.Histories.{after-any-history}
 use Rattle.lines.specs.Hex.{bytesOf}

@@ -8,7 +8,7 @@ use Rattle.cells.specs.Cell.{cell}
 use Rattle.layout.specs.declared.Shape.{Shape}
 use Rattle.reads.specs.Reads.{readCount, row, group, symbol}
 use Rattle.memory.specs.declared.State.{State}
-use Rattle.memory.specs.Operations.{packetIn}
+use Rattle.rows.specs.Rows.{packetIn}
 use Rattle.memory.specs.History.{Operation, write, release, History, lastWritten, Remembers}
 use Rattle.lines.specs.Hex.{bytesOf}
 use Rattle.frames.specs.declared.Frame.{Frame}

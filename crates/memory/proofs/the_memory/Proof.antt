@@ -5,18 +5,19 @@ use mathlib.Core.List.{List}
 use Prim.Native.Nat.{ℕ}
 use lib.ListN.{length}
 use Rattle.refusals.specs.declared.Verdict.the-variants.{Accepted}
+use Rattle.rows.specs.Laws.{Written}
 use Rattle.memory.specs.declared.State.{State}
 use Rattle.memory.specs.declared.Answer.the-variants.{Refused as NotDone}
 use Rattle.memory.specs.State.{sound, Sound}
 use Rattle.memory.specs.Operations.{writeRefusal, writeOutcome, writeStore, releaseRefusal, releaseOutcome, releaseSetRefusal, cycleRefusal}
 use Rattle.memory.specs.History.{Operation, write, release, releaseSet, read, Memory, outcomeOf}
-use Rattle.memory.specs.Laws.{Written, OneMore}
+use Rattle.memory.specs.Laws.{OneMore}
 use Rattle.memory.proofs.States.{sound-words, words-sound}
 use Rattle.memory.proofs.Accepted.{written-facts, released-facts}
 use Rattle.memory.proofs.Toggling.{row-filled, row-emptied}
 use Rattle.memory.proofs.Emptying.{seven, nine}
 use Rattle.memory.proofs.Singly.{set-released, empty-set, singly, some-list}
-use Rattle.memory.proofs.Writing.{packet-in, row-written}
+use Rattle.rows.proofs.Writing.{row-written}
 use Rattle.memory.proofs.Histories.{after-any-history}
 use Rattle.memory.proofs.the_memory.Statement.{statement}
 use Rattle.memory.proofs.the_memory.Tie as tie
@@ -46,7 +47,6 @@ returns : tie.Need-returns
 returns c = record {
   states = λ st. (sound-words st, words-sound st);
   broken = broken;
-  packets = packet-in;
   written = written;
   released = released;
   setReleased = set-released;

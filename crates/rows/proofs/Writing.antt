@@ -14,8 +14,8 @@ use Rattle.simplex.specs.Filling.{filled, spaced, Holds}
 use Rattle.simplex.proofs.Filling.{packet-at, packets-sized, length-filled, filled-same, filled-apart, filled-holds}
 use Rattle.layout.specs.declared.Shape.{Shape}
 use Rattle.layout.specs.Shape.{banks, storeSize, generationSize, CellOf, offset, cellAt}
-use Rattle.memory.specs.Operations.{packetsIn, groupWritten, groupsWritten, rowWritten}
-use Rattle.memory.specs.Laws.{OutsideRow, Written}
+use Rattle.rows.specs.Rows.{packetsIn, groupWritten, groupsWritten, rowWritten}
+use Rattle.rows.specs.Laws.{OutsideRow, Written}
 use Rattle.layout.proofs.Places.{inside, apart, offset-spaced, room}
 
 -- ---- the packets of a group

@@ -9,7 +9,7 @@ use lib.Pow.{pow-mono}
 use Rattle.simplex.specs.Filling.{Fillable}
 use Rattle.layout.specs.declared.Shape.{Shape}
 use Rattle.layout.specs.Shape.{InRange, banks, storeSize, CellOf, offset}
-use Rattle.memory.specs.Operations.{groupWritten, groupsWritten, packetsIn}
+use Rattle.rows.specs.Rows.{groupWritten, groupsWritten, packetsIn}
 use Rattle.layout.proofs.Places.{inside, offset-spaced}
 
 pub some-banks : (sh : Shape) → InRange sh → 3 ≤ banks sh

@@ -1,4 +1,4 @@
--- `memory::write_row` meets its contract: after x groups, the cells of the first x groups are put.
+-- `rows::write_row` meets its contract: after x groups, the cells of the first x groups are put.
 use mathlib.Core.Path.{_≡_, refl, sym, ap, _∙_}
 use mathlib.Core.List.{List}
 use Prim.Native.Nat.{ℕ, _+_, _-_, _*_, _≤_, _<_}
@@ -10,12 +10,12 @@ use Rattle.cells.proofs.Cells.{cell-part, length-cell}
 use Rattle.cells.proofs.Steps.{step-more}
 use Rattle.cells.specs.Cell.{cell}
 use Rattle.simplex.specs.Filling.{packetsOf}
-use Rattle.memory.specs.Operations.{groupWritten, groupsWritten}
+use Rattle.rows.specs.Rows.{groupWritten, groupsWritten}
 use Rattle.layout.proofs.Ranges.{group-bytes}
-use Rattle.memory.proofs.Writing.{group-within}
-use Rattle.memory.proofs.Groups.{none-written, one-written}
-use Rattle.memory.proofs.write_row.Statement.{statement}
-use Rattle.memory.proofs.write_row.Tie as tie
+use Rattle.rows.proofs.Writing.{group-within}
+use Rattle.rows.proofs.Groups.{none-written, one-written}
+use Rattle.rows.proofs.write_row.Statement.{statement}
+use Rattle.rows.proofs.write_row.Tie as tie
 
 abbrev Inv-loop : tie.InvT-loop
 Inv-loop store₀ shape row generation groups len x₀ q₀ store x q =

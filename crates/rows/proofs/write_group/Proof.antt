@@ -1,13 +1,13 @@
--- `memory::write_group` meets its contract: the banks of a group lie a row of cells apart.
+-- `rows::write_group` meets its contract: the banks of a group lie a row of cells apart.
 use mathlib.Core.Path.{sym, _∙_}
 use native.Mathlib.Omega.{arith}
 use borrow.Author.Needs.{needs}
 use denote.Ref.{now}
 use Rattle.layout.proofs.Ranges.{row-bytes}
-use Rattle.memory.proofs.Writing.{group-spaced}
-use Rattle.memory.proofs.Groups.{some-banks, fillable}
-use Rattle.memory.proofs.write_group.Statement.{statement}
-use Rattle.memory.proofs.write_group.Tie as tie
+use Rattle.rows.proofs.Writing.{group-spaced}
+use Rattle.rows.proofs.Groups.{some-banks, fillable}
+use Rattle.rows.proofs.write_group.Statement.{statement}
+use Rattle.rows.proofs.write_group.Tie as tie
 
 offset-of-requires : tie.Need-offset-of-requires
 offset-of-requires c κs =

@@ -1,0 +1,10 @@
+-- `rows::the_rows` carries the laws of a row.
+use Rattle.rows.proofs.Writing.{packet-in, row-written}
+use Rattle.rows.proofs.the_rows.Statement.{statement}
+use Rattle.rows.proofs.the_rows.Tie as tie
+
+returns : tie.Need-returns
+returns c = record { packets = packet-in; written = row-written }
+
+pub the-rows-spec : {M : Type 1} → statement M
+the-rows-spec = tie.close (tie.spec returns)
