@@ -1,4 +1,4 @@
--- The verdict on a read and on a list, check by check in their order.
+-- The verdict on a packet and on a list, check by check in their order.
 use mathlib.Core.Path.{_≡_}
 use mathlib.Core.Bool.{Bool, true, false}
 use mathlib.Core.List.{List}
@@ -9,44 +9,33 @@ use lib.ListN.{length}
 use Rattle.refusals.specs.declared.Verdict.the-variants.{Accepted, Refused}
 use Rattle.refusals.specs.Verdict.{firstRefusal}
 use Rattle.layout.specs.declared.Shape.{Shape}
-use Rattle.reads.specs.Reads.{readCount, row, group, symbol}
-use Rattle.reads.specs.Refusals.{readRefusal, groupRefusal, bufferRefusal, listRefusal}
+use Rattle.reads.specs.Reads.{readCount}
+use Rattle.reads.specs.Refusals.{packetRefusal, readRefusal, groupRefusal, bufferRefusal, listRefusal}
+
+-- ---- a packet
+
+module _ (sh : Shape) (full : ℕ → Bool) (place row x i : ℕ) where
+  pub no-row : sh .g ≤ row → Refused 7 place ≡ packetRefusal sh full place row x i
+  no-row l = rw (le-ltb row (sh .g) l)
+
+  module _ (in-row : row < sh .g) where
+    pub no-group : sh .m ≤ x → Refused 14 place ≡ packetRefusal sh full place row x i
+    no-group l = rw (lt-ltb row (sh .g) in-row, le-ltb x (sh .m) l)
+
+    module _ (in-group : x < sh .m) where
+      pub no-symbol : sh .k ≤ i → Refused 15 place ≡ packetRefusal sh full place row x i
+      no-symbol l = rw (lt-ltb row (sh .g) in-row, lt-ltb x (sh .m) in-group, le-ltb i (sh .k) l)
+
+      module _ (in-symbols : i < sh .k) where
+        pub row-empty : full row ≡ false → Refused 9 place ≡ packetRefusal sh full place row x i
+        row-empty e = rw (lt-ltb row (sh .g) in-row, lt-ltb x (sh .m) in-group, lt-ltb i (sh .k) in-symbols, e)
+
+        pub packet-fine : full row ≡ true → Accepted ≡ packetRefusal sh full place row x i
+        packet-fine e = rw (lt-ltb row (sh .g) in-row, lt-ltb x (sh .m) in-group, lt-ltb i (sh .k) in-symbols, e)
+
+-- ---- a list
 
 module _ (sh : Shape) (full : ℕ → Bool) (reads : List ℕ) where
-  -- ---- a read
-
-  module _ (n : ℕ) where
-    pub no-row : sh .g ≤ row reads n → Refused 7 n ≡ readRefusal sh full reads n
-    no-row l = rw (le-ltb (row reads n) (sh .g) l)
-
-    module _ (in-row : row reads n < sh .g) where
-      pub no-group : sh .m ≤ group reads n → Refused 14 n ≡ readRefusal sh full reads n
-      no-group l = rw (lt-ltb (row reads n) (sh .g) in-row, le-ltb (group reads n) (sh .m) l)
-
-      module _ (in-group : group reads n < sh .m) where
-        pub no-symbol : sh .k ≤ symbol reads n → Refused 15 n ≡ readRefusal sh full reads n
-        no-symbol l =
-            rw (lt-ltb (row reads n) (sh .g) in-row, lt-ltb (group reads n) (sh .m) in-group, le-ltb (symbol reads n) (sh .k) l)
-
-        module _ (in-symbols : symbol reads n < sh .k) where
-          pub row-empty : full (row reads n) ≡ false → Refused 9 n ≡ readRefusal sh full reads n
-          row-empty e = rw (
-            lt-ltb (row reads n) (sh .g) in-row,
-            lt-ltb (group reads n) (sh .m) in-group,
-            lt-ltb (symbol reads n) (sh .k) in-symbols,
-            e,
-          )
-
-          pub read-fine : full (row reads n) ≡ true → Accepted ≡ readRefusal sh full reads n
-          read-fine e = rw (
-            lt-ltb (row reads n) (sh .g) in-row,
-            lt-ltb (group reads n) (sh .m) in-group,
-            lt-ltb (symbol reads n) (sh .k) in-symbols,
-            e,
-          )
-
-  -- ---- a list
-
   module _ (out schedule : ℕ) where
     pub not-whole : eqb (length reads % 3) 0 ≡ false → Refused 13 0 ≡ listRefusal sh full reads out schedule
     unfolding listRefusal

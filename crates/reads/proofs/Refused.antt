@@ -15,7 +15,7 @@ use Rattle.simplex.specs.Shape.{limitOf}
 use Rattle.simplex.specs.Limit.{total}
 use Rattle.layout.specs.declared.Shape.{Shape}
 use Rattle.reads.specs.Reads.{readCount, row, group, symbol, countsOf}
-use Rattle.reads.specs.Refusals.{formRefusal, readRefusal, groupRefusal, bufferRefusal, listRefusal}
+use Rattle.reads.specs.Refusals.{nameRefusal, packetRefusal, readRefusal, groupRefusal, bufferRefusal, listRefusal}
 use Rattle.reads.specs.Parts.{Named}
 use Rattle.reads.proofs.Accepted.{accepted-named}
 
@@ -25,15 +25,18 @@ pub record Over (sh : Shape) (reads : List ℕ) (x : ℕ) : Type 0 where
   pub many : limitOf (sh .k) < total (countsOf reads x)
   pub lowest : (y : ℕ) → y < x → total (countsOf reads y) ≤ limitOf (sh .k)
 
+-- no packet is refused with 12
+packet-never : (sh : Shape) (full : ℕ → Bool) (place row x i : ℕ) → Never 12 (packetRefusal sh full place row x i)
+packet-never sh full place row x i =
+    let in-row = never-check 12 7 place (ltb row (sh .g)) (λ e. omega arith) in
+    let in-group = never-check 12 14 place (ltb x (sh .m)) (λ e. omega arith) in
+    let in-symbol = never-check 12 15 place (ltb i (sh .k)) (λ e. omega arith) in
+    let is-full = never-check 12 9 place (full row) (λ e. omega arith) in
+    never-then 12 (nameRefusal sh place row x i) _ (never-then 12 _ _ in-row (never-then 12 _ _ in-group in-symbol)) is-full
+
 module _ (sh : Shape) (full : ℕ → Bool) (reads : List ℕ) where
-  -- no read is refused with 12
   read-never : (n : ℕ) → Never 12 (readRefusal sh full reads n)
-  read-never n =
-      let in-row = never-check 12 7 n (ltb (row reads n) (sh .g)) (λ e. omega arith) in
-      let in-group = never-check 12 14 n (ltb (group reads n) (sh .m)) (λ e. omega arith) in
-      let in-symbol = never-check 12 15 n (ltb (symbol reads n) (sh .k)) (λ e. omega arith) in
-      let is-full = never-check 12 9 n (full (row reads n)) (λ e. omega arith) in
-      never-then 12 (formRefusal sh reads n) _ (never-then 12 _ _ in-row (never-then 12 _ _ in-group in-symbol)) is-full
+  read-never n = packet-never sh full _ (row reads n) (group reads n) (symbol reads n)
 
   groups-over : (x : ℕ) → Named sh reads → firstRefusal (groupRefusal sh reads) (sh .m) ≡ Refused 12 x → Over sh reads x
   groups-over x named e =

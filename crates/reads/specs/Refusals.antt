@@ -15,14 +15,21 @@ use Rattle.reads.specs.Reads.{readCount, row, group, symbol, countsOf}
 abbrev pub lengthRefusal : List ℕ → Verdict
 lengthRefusal reads = check 13 0 (eqb (length reads % 3) 0)
 
--- The form of read n. 7, its row is G or more. 14, its group is m or more. 15, its symbol is K or more.
-abbrev pub formRefusal : Shape → List ℕ → ℕ → Verdict
-formRefusal sh reads n =
-    check 7 n (ltb (row reads n) (sh .g)) then check 14 n (ltb (group reads n) (sh .m)) then check 15 n (ltb (symbol reads n) (sh .k))
+-- A packet named by its row, group and symbol, and a place for its refusals. 7, the row is G or more. 14, the group is m or more. 15, the symbol is K or
+-- more.
+abbrev pub nameRefusal : Shape → (place row x i : ℕ) → Verdict
+nameRefusal sh place row x i = check 7 place (ltb row (sh .g)) then check 14 place (ltb x (sh .m)) then check 15 place (ltb i (sh .k))
 
--- Read n by itself: its form; then 9, its row is empty.
+-- The same; then 9, the row is empty.
+abbrev pub packetRefusal : Shape → (ℕ → Bool) → (place row x i : ℕ) → Verdict
+packetRefusal sh full place row x i = nameRefusal sh place row x i then check 9 place (full row)
+
+-- The form of read n, and read n by itself: its place is its index.
+abbrev pub formRefusal : Shape → List ℕ → ℕ → Verdict
+formRefusal sh reads n = nameRefusal sh n (row reads n) (group reads n) (symbol reads n)
+
 abbrev pub readRefusal : Shape → (ℕ → Bool) → List ℕ → ℕ → Verdict
-readRefusal sh full reads n = formRefusal sh reads n then check 9 n (full (row reads n))
+readRefusal sh full reads n = packetRefusal sh full n (row reads n) (group reads n) (symbol reads n)
 
 -- 12, group x has too many reads.
 abbrev pub groupRefusal : Shape → List ℕ → ℕ → Verdict

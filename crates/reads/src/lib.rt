@@ -7,7 +7,7 @@ ghost use Rattle.bits.specs.Marks.{marked};
 ghost use Rattle.refusals.specs.Verdict.{firstRefusal};
 ghost use Rattle.layout.specs.Shape.{mostGroups, InRange};
 ghost use Rattle.reads.specs.Reads.{readCount, field, countOf};
-ghost use Rattle.reads.specs.Refusals.{readRefusal};
+ghost use Rattle.reads.specs.Refusals.{packetRefusal, readRefusal};
 ghost use Rattle.reads.specs.Laws.{TheReads};
 ghost use Rattle.reads.specs.Parts.{Grid, countsIn, InGrid};
 use layout::MOST_GROUPS;
@@ -31,25 +31,42 @@ pub fn field_of(reads: &[u8], n: usize, f: usize) -> usize
     reads[n * 3 + f] as usize
 }
 
+// The refusal of a packet named by its row, group and symbol: 7, 14, 15, 9, with this place.
+pub fn judge_packet(
+    shape: Shape,
+    full: u64,
+    row: usize,
+    x: usize,
+    i: usize,
+    place: usize,
+) -> Verdict
+    requires { ⌜ InRange shape ⌝ }
+    ensures { λ r. ⌜ r ≡ packetRefusal shape (marked full) place row x i ⌝ }
+{
+    if shape.g <= row {
+        return Verdict::Refused(7, place);
+    }
+    if shape.m <= x {
+        return Verdict::Refused(14, place);
+    }
+    if shape.k <= i {
+        return Verdict::Refused(15, place);
+    }
+    if !bits::is_marked(full, row) {
+        return Verdict::Refused(9, place);
+    }
+    Verdict::Accepted
+}
+
 // The refusal of read n by itself: 7, 14, 15, 9.
 pub fn judge_read(shape: Shape, full: u64, reads: &[u8], n: usize) -> Verdict
     requires { ⌜ InRange shape × (n < readCount (now reads)) ⌝ }
     ensures { λ r. ⌜ r ≡ readRefusal shape (marked full) (now (reads .entry)) n ⌝ }
 {
     let row = field_of(reads, n, 0);
-    if shape.g <= row {
-        return Verdict::Refused(7, n);
-    }
-    if shape.m <= field_of(reads, n, 1) {
-        return Verdict::Refused(14, n);
-    }
-    if shape.k <= field_of(reads, n, 2) {
-        return Verdict::Refused(15, n);
-    }
-    if !bits::is_marked(full, row) {
-        return Verdict::Refused(9, n);
-    }
-    Verdict::Accepted
+    let group = field_of(reads, n, 1);
+    let symbol = field_of(reads, n, 2);
+    judge_packet(shape, full, row, group, symbol, n)
 }
 
 // The first refusal of a read.
