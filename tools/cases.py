@@ -26,6 +26,16 @@ SMALL_CYCLES = [(5, 0, "0001000101010001", 9, 9), (6, 0, "0001000101010001", 9, 
 SIX_ROWS, SIX_FULL, SIX_BROKEN = 6, {0, 1, 3, 5}, {0, 1, 3, 5, 6}
 SIX_SETS = [(SIX_BROKEN, {2, 6}), (SIX_FULL, {1, 2, 6, 63}), (SIX_FULL, {0, 2, 4, 5}), (SIX_FULL, set()), (SIX_FULL, {0, 3}), (SIX_FULL - {0, 3}, {1, 5})]
 
+# The memory whose packets are updated: K, groups, bytes, rows, and its generations, group by group and symbol by symbol. Its refused updates: which
+# rows are full, the store's length, row, group, symbol and the new packet's length.
+UPDATE_K, UPDATE_GROUPS, UPDATE_BYTES, UPDATE_ROWS = 3, 2, 2, 2
+UPDATE_GENERATIONS = [[[[1, 2], [3, 4], [5, 6]], [[7, 8], [9, 10], [11, 12]]],
+                   [[[0x10, 0x20], [0x30, 0x40], [0x50, 0x60]], [[0x70, 0x80], [0x90, 0xa0], [0xb0, 0xc0]]]]
+UPDATE_SIZE = UPDATE_GROUPS * (2 ** UPDATE_K - 1) * UPDATE_ROWS * UPDATE_BYTES
+UPDATE_REFUSED = [({0, 1, 2}, UPDATE_SIZE - 1, 2, 2, 3, 1), ({0, 1}, UPDATE_SIZE - 1, 2, 2, 3, 1), ({0, 1}, UPDATE_SIZE, 2, 2, 3, 1), ({0, 1}, UPDATE_SIZE, 1, 2, 3, 1),
+                  ({0, 1}, UPDATE_SIZE, 1, 1, 3, 1), ({0, 1}, UPDATE_SIZE, 1, 1, 1, 1), ({0, 1}, UPDATE_SIZE, 1, 1, 1, 3), ({0}, UPDATE_SIZE, 1, 1, 3, 1),
+                  ({0}, UPDATE_SIZE, 1, 1, 1, 1)]
+
 
 def refusal(K, counts):
     if K not in EVERY_K:
@@ -184,7 +194,75 @@ def set_lines(full, rows):
     return [answer, f"full {sum(2 ** r for r in after)}"]
 
 
-# The lines that are wrong, of all that is printed: the requests, the counts of each K, the cycles of each K, the small memory, and the row sets.
+# A store by the packets of its rows: bank b of a group holds the XOR of the packets whose bit is 1 in b.
+def store_of(generations):
+    cells = [(x, b, r) for x in range(UPDATE_GROUPS) for b in range(1, 2 ** UPDATE_K) for r in range(UPDATE_ROWS)]
+    cell = lambda x, b, r, n: xor_all(generations[r][x][i][n] for i in range(UPDATE_K) if b >> i & 1)
+    return [cell(x, b, r, n) for x, b, r in cells for n in range(UPDATE_BYTES)]
+
+
+def xor_all(numbers):
+    total = 0
+    for number in numbers:
+        total ^= number
+    return total
+
+
+def update_refusal(full, size, row, x, i, length):
+    checks = [(5, all(r < UPDATE_ROWS for r in full)), (6, size == UPDATE_SIZE), (7, row < UPDATE_ROWS), (14, x < UPDATE_GROUPS), (15, i < UPDATE_K), (9, row in full),
+              (10, length == UPDATE_BYTES)]
+    return next((number for number, passed in checks if not passed), None)
+
+
+# Into each bank with that bit, in that row, the old packet, which is in its systematic bank, and the new one.
+def store_after(store, row, x, i, packet):
+    at = lambda b: ((x * (2 ** UPDATE_K - 1) + b - 1) * UPDATE_ROWS + row) * UPDATE_BYTES
+    after = list(store)
+    for b in range(1, 2 ** UPDATE_K):
+        for n in range(UPDATE_BYTES):
+            after[at(b) + n] ^= (b >> i & 1) * (store[at(2 ** i) + n] ^ packet[n])
+    return after
+
+
+# The lines up to the cycle, the generations after the updates, and the lines after the cycle. A refused update leaves the store; an accepted one leaves the
+# store of the edited generations, and a store of other bytes as the XOR changes it. Between the refused ones row 1 is released.
+def update_lines():
+    show = lambda answer, full, store: [answer, f"full {sum(2 ** r for r in full)}", "store " + bytes(store).hex()]
+    store = store_of(UPDATE_GENERATIONS)
+    lines = ["updates"]
+    released = False
+    for full, size, row, x, i, length in UPDATE_REFUSED:
+        lines += ["full rows 1"] if full == {0} and not released else []
+        released = full == {0}
+        lines += show(f"refused {update_refusal(full, size, row, x, i, length)}, place 0", full, store)
+    edited = [[[list(packet) for packet in group] for group in row] for row in UPDATE_GENERATIONS]
+    for row, x, i, packet in [(1, 1, 1, [0xab, 0xcd]), (0, 0, 2, [0x00, 0xff])]:
+        edited[row][x][i] = packet
+        lines += show("full rows 2", {0, 1}, store_of(edited))
+    other = [0x5a] * UPDATE_SIZE
+    other[28], other[37] = 0x11, 0x22
+    lines += ["cycle of 4 reads: served", "reads 010101010100010101010101"]
+    return lines, edited, show("full rows 2", {0, 1}, store_after(other, 0, 1, 0, [0x0f, 0xf0]))
+
+
+# The lines of the updates are right: those of the stores, and the cycle that reads three times an updated packet and once its neighbour.
+def are_updates(lines):
+    head, edited, tail = update_lines()
+    if lines[:len(head)] != head or lines[len(head) + 2:] != tail:
+        return False
+    reads = [(1, 1, 1), (1, 1, 0), (1, 1, 1), (1, 1, 1)]
+    packets, schedule = [bytes.fromhex(line.split(" ")[1]) for line in lines[len(head):len(head) + 2]]
+    pairs = list(zip(schedule[::2], schedule[1::2]))
+    return (
+        list(packets) == [byte for row, x, i in reads for byte in edited[row][x][i]]
+        and len(pairs) == len(reads)
+        and all(serves(UPDATE_K, i, a, b) for (_, _, i), (a, b) in zip(reads, pairs))
+        and none_twice([bank for pair in pairs for bank in pair if bank])
+    )
+
+
+# The lines that are wrong, of all that is printed: the requests, the counts of each K, the cycles of each K, the small memory, the row sets, and
+# the updates.
 def wrong_lines(requests, lines):
     tallies = [tally(K) for K in EVERY_K]
     end = len(requests) + len(tallies) + K_LINES * len(tallies)
@@ -195,8 +273,11 @@ def wrong_lines(requests, lines):
     for n, K in enumerate(EVERY_K):
         wrong += wrong_cycles(K, cycles[K_LINES * n:K_LINES * (n + 1)])
     sets = ["row sets"] + [line for full, rows in SIX_SETS for line in set_lines(full, rows)]
-    wrong += [] if lines[end:-len(sets)] == small_lines() else ["the small memory"]
-    return wrong + ([] if lines[-len(sets):] == sets else ["the row sets"])
+    small = small_lines()
+    after = end + len(small)
+    wrong += [] if lines[end:after] == small else ["the small memory"]
+    wrong += [] if lines[after:after + len(sets)] == sets else ["the row sets"]
+    return wrong + ([] if are_updates(lines[after + len(sets):]) else ["the updates"])
 
 
 def main():

@@ -3,10 +3,10 @@ use mathlib.Core.Path.{_≡_, refl, sym, ap, ap₂, _∙_}
 use mathlib.Core.Logic.{_≢_, ⊎-elim}
 use mathlib.Core.Bool.{Bool, true, false, not, _&&_, cond, false≢true}
 use Prim.Native.Nat.{ℕ, zero, suc, _+_, _-_, _*_, _/_, _%_, _^_, _≤_, _<_}
-use native.Mathlib.Nat.{le-refl, div-eq-of-lt, one-mul, eq-or-lt-of-le, le-of-suc-le-suc, mod-lt, mod-eq-of-lt, mod-one, add-zero, zero-add}
+use native.Mathlib.Nat.{le-refl, div-eq-of-lt, one-mul, eq-or-lt-of-le, le-of-suc-le-suc, mod-lt, mod-eq-of-lt, mod-one, add-zero, zero-add, div-one, pow-suc}
 use native.Mathlib.Omega.{arith}
 use native.Mathlib.Decide.{le-ind}
-use borrow.Author.Tests.{eq-eqb, eqb-true, eqb-false, ltb-true, ltb-false}
+use borrow.Author.Tests.{eq-eqb, ne-eqb, eqb-true, eqb-false, ltb-true, ltb-false}
 use lib.Arith.{bin-ind}
 use lib.Bits.{bitXor, xor-shr, xor-zero-r}
 use lib.Count.{ones, ones-cat}
@@ -20,7 +20,7 @@ use Rattle.bits.proofs.Bits.{bit-half, bit-zero, bit-added, bit-other}
 -- ---- one mark toggled
 
 -- 2^i has bit i alone
-power-itself : (i : ℕ) → bit (2 ^ i) i ≡ 1
+pub power-itself : (i : ℕ) → bit (2 ^ i) i ≡ 1
 power-itself i = rw (zero-add (2 ^ i)) at (bit-added 0 i (bit-zero i))
 
 power-other : (i j : ℕ) → i ≢ j → bit (2 ^ i) j ≡ 0
@@ -186,3 +186,43 @@ ones-are set n h = ap ones (sym (mod-eq-of-lt h)) ∙ sym (ones-low set n)
 
 pub one-shl : (i w : ℕ) → i < w → 1 * 2 ^ i % 2 ^ w ≡ 2 ^ i
 one-shl i w h = shl-exact 1 i w (lit< tt) (omega arith) ∙ one-mul (2 ^ i)
+
+-- counted from 1 on
+pub many-after : (test : ℕ → Bool) (n : ℕ) → howMany test (suc n) ≡ cond (test 0) 1 0 + howMany (λ i. test (suc i)) n
+many-after test zero = omega arith
+many-after test (suc n) = omega (arith, many-after test n)
+
+-- ---- how many numbers below 2^K have bit i
+
+-- of 0 to 2m - 1 every other one has bit 0; bit i + 1 of 2n and of 2n + 1 is bit i of n
+lowest-many : (m : ℕ) → howMany (λ b. marked b 0) (m + m) ≡ m
+lowest-many zero = refl
+lowest-many (suc m) =
+    let twice : suc m + suc m ≡ suc (suc (m + m)) = omega arith in
+    let even : marked (m + m) 0 ≡ false = ne-eqb _ _ (λ (e : bit (m + m) 0 ≡ 1). omega (arith, rw (div-one (m + m)) at e)) in
+    let odd : marked (suc (m + m)) 0 ≡ true = eq-eqb (bit (suc (m + m)) 0) 1 (rw (div-one (suc (m + m))) (omega arith)) in
+    rw (twice, even, odd) (omega (arith, lowest-many m))
+
+higher-many : (i m : ℕ) → howMany (λ b. marked b (suc i)) (m + m) ≡ howMany (λ b. marked b i) m + howMany (λ b. marked b i) m
+higher-many i zero = refl
+higher-many i (suc m) =
+    let twice : suc m + suc m ≡ suc (suc (m + m)) = omega arith in
+    let even : bit (m + m) (suc i) ≡ bit m i = bit-half (m + m) i (omega arith) in
+    let odd : bit (suc (m + m)) (suc i) ≡ bit m i = bit-half (suc (m + m)) i (omega arith) in
+    rw (twice, even, odd) (omega (arith, higher-many i m))
+
+pub bit-many : (K i : ℕ) → i < K → howMany (λ b. marked b i) (2 ^ K) ≡ 2 ^ (K - 1)
+bit-many zero i l = absurd (omega arith)
+bit-many (suc K) zero l =
+    let twice : 2 ^ suc K ≡ 2 ^ K + 2 ^ K = omega (arith, pow-suc 2 K) in
+    let less : suc K - 1 ≡ K = omega arith in
+    rw (twice, less) (lowest-many (2 ^ K))
+bit-many (suc K) (suc i) l =
+    let twice : 2 ^ suc K ≡ 2 ^ K + 2 ^ K = omega (arith, pow-suc 2 K) in
+    let less : suc K - 1 ≡ K = omega arith in
+    let power : 2 ^ K ≡ 2 ^ (K - 1) + 2 ^ (K - 1) = half K (le-of-suc-le-suc l) in
+    rw (twice, less) (higher-many i (2 ^ K) ∙ omega (arith, bit-many K i (le-of-suc-le-suc l), power))
+  where
+    half : (K : ℕ) → i < K → 2 ^ K ≡ 2 ^ (K - 1) + 2 ^ (K - 1)
+    half zero l = absurd (omega arith)
+    half (suc K) l = let less : suc K - 1 ≡ K = omega arith in rw less (omega (arith, pow-suc 2 K))

@@ -1,7 +1,7 @@
 // Plans requests, and audits the plans. First the requests of standard input, one a line: K and five counts, with a space between. (Other
 // characters than digits, spaces and the line feed that ends a line are passed over.) Then every request there is, of every K, that totals at most
-// one read more than the limit. Then read cycles of a memory at each K, served and refused, as cycles.rt says; a small memory, as refused.rt says; last,
-// releases of row sets, as sets.rt says.
+// one read more than the limit. Then read cycles of a memory at each K, served and refused, as cycles.rt says; a small memory, as refused.rt says;
+// releases of row sets, as sets.rt says; last, updates of packets, as updates.rt says.
 //
 // With L = 2^(K-1), C(L+K, K) requests total at most L and ask K * C(L+K, K+1) reads, and C(L+K, K-1) total L + 1. tools/cases.py computes these,
 // and judges each plan and refusal of the first part by the words of the rules: which plan a request gets is free, except where no symbol is
@@ -12,6 +12,7 @@ ghost use Rattle.simplex.specs.Shape.{mostSymbols, mostPairs};
 mod cycles;
 mod refused;
 mod sets;
+mod updates;
 
 use audit::Audited;
 use libc::STDIN_FILENO;
@@ -340,4 +341,5 @@ fn main() {
     cycles::run(5, 16, 31);
     refused::run();
     sets::run();
+    updates::run();
 }

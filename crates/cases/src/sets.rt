@@ -3,6 +3,7 @@
 use crate::cycles::print_answer;
 use crate::print_number;
 use crate::print_text;
+use memory::Outcome;
 use memory::State;
 
 const STORE: usize = 18;
@@ -13,15 +14,20 @@ fn written(state: State, store: &mut [u8; STORE], row: usize) -> State {
     outcome.state
 }
 
-// Releases a set of rows, and shows the answer and the rows that are full then, as marks. Gives the state.
-fn show(state: State, set: u64) -> State {
-    let outcome = state.release_set(set);
+// Shows an operation's answer, and the rows that are full then, as marks.
+pub fn print_outcome(outcome: Outcome) {
     print_answer(outcome);
     let after = outcome.state;
     print_text(b"full ");
     print_number(after.full);
     print_text(b"\n");
-    after
+}
+
+// Releases a set of rows, and shows what that gives. Gives the state.
+fn show(state: State, set: u64) -> State {
+    let outcome = state.release_set(set);
+    print_outcome(outcome);
+    outcome.state
 }
 
 // Rows 2 and 6, where row 6 is marked as full but is not there: 5. Rows 1, 2, 6 and 63: 7 at row 6, though row 2 is empty. Rows 0, 2, 4 and 5: 9 at row 2.

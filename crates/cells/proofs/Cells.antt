@@ -52,6 +52,16 @@ getD-put-in (x ∷ s) zero (y ∷ c) (suc j) h l =
     let ih = getD-put-in s zero c j (le-of-suc-le-suc h) (rw (zero-add j) (le-of-suc-le-suc (rw (zero-add (suc j)) at l))) in
     rw (zero-add (suc j)) (rw (zero-add j) at ih)
 
+-- two parts that lie apart may be put in either order
+pub put-swap : (s : List ℕ) (f : ℕ) (d : List ℕ) (at : ℕ) (c : List ℕ) → f + length d ≤ at → put (put s at c) f d ≡ put (put s f d) at c
+unfolding put
+put-swap [] f d at c h = refl
+put-swap (x ∷ s) (suc f) d zero c h = absurd (omega arith)
+put-swap (x ∷ s) (suc f) d (suc at) c h = ap (λ (r : List ℕ). x ∷ r) (put-swap s f d at c (omega arith))
+put-swap (x ∷ s) zero [] at c h = sym (put-none (put (x ∷ s) at c) zero)
+put-swap (x ∷ s) zero (y ∷ d) zero c h = absurd (omega arith)
+put-swap (x ∷ s) zero (y ∷ d) (suc at) c h = ap (λ (r : List ℕ). y ∷ r) (put-swap s zero d at c (omega arith))
+
 pub length-cell : (s : List ℕ) (at p : ℕ) → at + p ≤ length s → length (cell s at p) ≡ p
 length-cell s at p h = length-take-le p (drop at s) (rw length-drop (omega arith))
 

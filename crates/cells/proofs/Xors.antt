@@ -2,9 +2,9 @@
 use mathlib.Core.Path.{_≡_, refl, sym, ap, ap₂, _∙_}
 use mathlib.Core.List.{List, [], _∷_}
 use Prim.Native.Nat.{ℕ, zero, suc, _≤_}
-use native.Mathlib.Nat.{suc-inj, suc-ne-zero, le-of-suc-le-suc, not-suc-le-zero}
+use native.Mathlib.Nat.{le-of-eq, suc-inj, suc-ne-zero, le-of-suc-le-suc, not-suc-le-zero}
 use lib.Bits.{bitXor, xor-comm, xor-zero-r}
-use lib.ListN.{length, getD, replicate}
+use lib.ListN.{length, getD, replicate, length-replicate}
 use Rattle.cells.specs.Xor.{xorBytes, zeros}
 use Rattle.bits.proofs.Digits.{xor-assoc, xor-cancel}
 
@@ -14,7 +14,7 @@ assoc (x ∷ p) [] r = refl
 assoc (x ∷ p) (y ∷ q) [] = refl
 assoc (x ∷ p) (y ∷ q) (z ∷ r) = ap₂ {C = List ℕ} (λ a t. a ∷ t) (xor-assoc x y z) (assoc p q r)
 
-comm : (p q : List ℕ) → xorBytes p q ≡ xorBytes q p
+pub comm : (p q : List ℕ) → xorBytes p q ≡ xorBytes q p
 comm [] [] = refl
 comm [] (y ∷ q) = refl
 comm (x ∷ p) [] = refl
@@ -34,6 +34,15 @@ cancel (x ∷ p) (y ∷ u) (z ∷ v) h = ap₂ {C = List ℕ} (λ a t. a ∷ t) 
 pub zeros-right : (p : List ℕ) → xorBytes p (zeros (length p)) ≡ p
 zeros-right [] = refl
 zeros-right (x ∷ p) = ap₂ {C = List ℕ} (λ a t. a ∷ t) (xor-zero-r x) (zeros-right p)
+
+-- what is XORed in twice is gone
+pub xor-back : (p q : List ℕ) → length p ≡ length q → xorBytes p (xorBytes p q) ≡ q
+xor-back p q e =
+    ap (λ (x : List ℕ). xorBytes x (xorBytes p q)) (sym (zeros-right p))
+    ∙ cancel p (zeros (length p)) q (le-of-eq (length-replicate (length p) 0))
+    ∙ comm (zeros (length p)) q
+    ∙ ap (λ (n : ℕ). xorBytes q (zeros n)) e
+    ∙ zeros-right q
 
 pub same-bytes : (p x y : ℕ) → xorBytes (replicate p x) (replicate p y) ≡ replicate p (bitXor x y)
 same-bytes zero x y = refl

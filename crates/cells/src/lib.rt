@@ -43,12 +43,16 @@ pub fn xor_from(s: &mut [u8], at: usize, from: usize, src: &[u8])
     }
 }
 
-// `src` is XORed into the cell of `s` at `at`.
-pub fn xor_into(s: &mut [u8], at: usize, src: &[u8])
-    requires { ⌜ at + length (now src) ≤ length (now s) ⌝ }
-    ensures { λ _. ⌜ now (s .exit) ≡ put (now (s .entry)) at (xorBytes (cell (now (s .entry)) at (length (now (src .entry)))) (now (src .entry))) ⌝ }
+// The cell of `s` at `from`, which lies before the one at `at`, and `src` are XORed into the cell at `at`.
+pub fn xor_into(s: &mut [u8], at: usize, from: usize, src: &[u8])
+    requires { ⌜ (at + length (now src) ≤ length (now s)) × (from + length (now src) ≤ at) ⌝ }
+    ensures { λ _. ⌜ now (s .exit) ≡ put (now (s .entry)) at (xorBytes (cell (now (s .entry)) at (length (now (src .entry)))) (xorBytes (cell (now (s .entry)) from (length (now (src .entry)))) (now (src .entry)))) ⌝ }
 {
-    xor_from(s, at, at, src)
+    let mut i = 0;
+    while i < src.len() {
+        s[at + i] = s[at + i] ^ (s[from + i] ^ src[i]);
+        i += 1;
+    }
 }
 
 // The cell of `p` bytes of `out` at `at` becomes the XOR of those of `s` at `a` and at `b`.

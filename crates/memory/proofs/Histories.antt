@@ -16,11 +16,13 @@ use Rattle.refusals.specs.declared.Verdict.the-variants.{Accepted, Refused}
 use Rattle.refusals.specs.Verdict.{ifRefused}
 use Rattle.refusals.proofs.Verdicts.{both}
 use Rattle.cells.specs.Cell.{cell}
+use Rattle.cells.proofs.Cells.{length-put}
 use Rattle.simplex.specs.Code.{bankCell}
 use Rattle.simplex.proofs.Filling.{length-packets}
 use Rattle.audit.specs.Plan.{opened}
 use Rattle.layout.specs.declared.Shape.{Shape}
-use Rattle.rows.specs.Rows.{packetsIn, packetIn, rowWritten}
+use Rattle.rows.specs.Rows.{packetsIn, packetIn, groupWritten, rowWritten, packetUpdated, edited}
+use Rattle.rows.specs.Laws.{Edited}
 use Rattle.reads.specs.Reads.{readCount, row, group, symbol}
 use Rattle.reads.proofs.Accepted.{judged-alike}
 use Rattle.cycle.specs.Cycle.{xorOfCells}
@@ -30,15 +32,17 @@ use Rattle.memory.specs.declared.Outcome.{Outcome}
 use Rattle.memory.specs.declared.Answer.the-variants.{FullRows, Served}
 use Rattle.layout.specs.Shape.{shapeRefusal, storeSize, generationSize, CellOf, cellAt}
 use Rattle.memory.specs.State.{isFull, fullRows, empty, rowToggled, rowsEmptied, Sound}
-use Rattle.memory.specs.Operations.{answerBy, outcomeBy, writeRefusal, releaseRefusal, releaseSetRefusal, cycleRefusal, cycleSchedule}
-use Rattle.memory.specs.History.{Operation, write, release, releaseSet, read, History, Memory, outcomeOf, storeAfter, run}
-use Rattle.memory.specs.History.{verdictIn, toldBy, fullBy, writtenBy, fullIn, lastWritten, filledBy, emptiedBy, inAll, Returned, Remembers, AfterAnyHistory}
+use Rattle.memory.specs.Operations.{answerBy, outcomeBy, writeRefusal, updateRefusal, updateStore, releaseRefusal, releaseSetRefusal, cycleRefusal, cycleSchedule}
+use Rattle.memory.specs.History.{Operation, write, update, release, releaseSet, read, History, Memory, outcomeOf, storeAfter, run}
+use Rattle.memory.specs.History.{verdictIn, toldBy, fullBy, writtenBy, fullIn, lastWritten, filledBy, emptiedBy, inAll, Returned, UpdatedIn, Remembers, AfterAnyHistory}
+use Rattle.memory.specs.Laws.{RightUpdate}
 use Rattle.layout.proofs.Ranges.{range-words}
 use Rattle.memory.proofs.States.{words-sound}
-use Rattle.memory.proofs.Accepted.{Writable, Releasable, written-facts, released-facts}
+use Rattle.memory.proofs.Accepted.{Writable, Releasable, written-facts, update-facts, released-facts}
 use Rattle.memory.proofs.Toggling.{toggled-sound, row-filled, row-emptied}
 use Rattle.memory.proofs.Emptying.{rows-alike, set-released-facts, emptied-rows, emptied-sound, emptied-count}
 use Rattle.rows.proofs.Writing.{packet-in, packets-in-sized, row-written, other-rows}
+use Rattle.rows.proofs.Updating.{generation-edited, store-updated, cells-kept, fresh, row-edited}
 use Rattle.memory.proofs.Cycles.{serves-all, facts, coded-packet}
 
 -- ---- what every operation keeps
@@ -65,7 +69,7 @@ record Done (sh : Shape) (full : ℕ → Bool) (last : ℕ → List ℕ) (v : Ve
 empty-row : {sh : Shape} {st : State} {s : List ℕ} {r : ℕ} {last : List ℕ} → isFull st r ≡ false → Row sh st s r false last
 empty-row e = record { mark = e; whole = λ f. absurd (false≢true f); cells = λ x b c f. absurd (false≢true f) }
 
--- a write or a release: it tells the number of full rows
+-- a write, an update or a release: it tells the number of full rows
 accepted : {sh : Shape} {full : ℕ → Bool} {last : ℕ → List ℕ} {after : State} {s : List ℕ} (before : State) (operation : Operation)
     → ((rows : ℕ) → FullRows rows ≡ toldBy operation rows) → Held sh full last after s → fullRows after + emptiedBy operation ≡ filledBy operation + fullRows before
     → Done sh full last Accepted before operation (outcomeBy before after Accepted) s
@@ -94,7 +98,7 @@ module _ (st : State) (s : List ℕ) (full : ℕ → Bool) (last : ℕ → List 
     write-judged = rw (words-sound st (kept .sound), eq-eqb _ _ (kept .size), kept .rows row .mark)
 
     write-keeps : Writable st (length s) row (length generation)
-        → Held (st .shape) (fullBy (write row generation) full) (writtenBy (write row generation) last) (rowToggled st row)
+        → Held (st .shape) (fullBy (write row generation) full) (writtenBy (st .shape) (write row generation) last) (rowToggled st row)
         (rowWritten (st .shape) row generation s)
     write-keeps w =
         let put = row-written (st .shape) row generation s (w .below) (kept .size) (w .whole) in
@@ -115,7 +119,7 @@ module _ (st : State) (s : List ℕ) (full : ℕ → Bool) (last : ℕ → List 
         }
 
     write-by : (v : Verdict) → writeRefusal st (length s) row (length generation) ≡ v
-        → Done (st .shape) (ifRefused full (fullBy (write row generation) full) v) (ifRefused last (writtenBy (write row generation) last) v) v st (write row generation)
+        → Done (st .shape) (ifRefused full (fullBy (write row generation) full) v) (ifRefused last (writtenBy (st .shape) (write row generation) last) v) v st (write row generation)
         (outcomeBy st (rowToggled st row) v) (ifRefused s (rowWritten (st .shape) row generation s) v)
     write-by Accepted e =
         let w = written-facts st (length s) row (length generation) e in
@@ -128,7 +132,7 @@ module _ (st : State) (s : List ℕ) (full : ℕ → Bool) (last : ℕ → List 
   unfolding releaseRefusal
   release-judged = rw (words-sound st (kept .sound), kept .rows row .mark)
 
-  release-keeps : Releasable st row → Held (st .shape) (fullBy (release row) full) (writtenBy (release row) last) (rowToggled st row) s
+  release-keeps : Releasable st row → Held (st .shape) (fullBy (release row) full) (writtenBy (st .shape) (release row) last) (rowToggled st row) s
   release-keeps w =
       let fewer = row-emptied st row (w .below) (w .full) in
       record {
@@ -141,12 +145,62 @@ module _ (st : State) (s : List ℕ) (full : ℕ → Bool) (last : ℕ → List 
       }
 
   release-by : (v : Verdict) → releaseRefusal st row ≡ v
-      → Done (st .shape) (ifRefused full (fullBy (release row) full) v) (ifRefused last (writtenBy (release row) last) v) v st (release row)
+      → Done (st .shape) (ifRefused full (fullBy (release row) full) v) (ifRefused last (writtenBy (st .shape) (release row) last) v) v st (release row)
       (outcomeBy st (rowToggled st row) v) s
   release-by Accepted e =
       let w = released-facts st row e in
       accepted st (release row) (λ rows. refl) (release-keeps w) (omega (arith, row-emptied st row (w .below) (w .full) .count))
   release-by (Refused number place) e = record { keeps = kept; answer = refl; count = omega arith }
+
+-- ---- an update
+
+module _ (st : State) (s : List ℕ) (full : ℕ → Bool) (last : ℕ → List ℕ) (kept : Held (st .shape) full last st s) (row x i : ℕ) (packet : List ℕ) where
+  update-judged : updateRefusal st (length s) row x i (length packet) ≡ verdictIn (st .shape) full (update row x i packet)
+  unfolding updateRefusal
+  update-judged = rw (words-sound st (kept .sound), eq-eqb _ _ (kept .size), kept .rows row .mark)
+
+  update-keeps : RightUpdate st (length s) row x i (length packet)
+      → Held (st .shape) (fullBy (update row x i packet) full) (writtenBy (st .shape) (update row x i packet) last) st
+      (packetUpdated (st .shape) row x i packet s)
+  update-keeps w = record {
+    shape = refl;
+    sound = kept .sound;
+    size = store-updated (st .shape) row x i packet s (w .packet) (w .store) (w .bytes) .size ∙ kept .size;
+    rows = each-row row
+        (λ r t. Row (st .shape) st (packetUpdated (st .shape) row x i packet s) r (full r) (cond t (edited (st .shape) (last r) x i packet) (last r)))
+        (record {
+          mark = kept .rows row .mark;
+          whole = λ f. length-put (last row) ((x * st .shape .k + i) * st .shape .p) packet ∙ kept .rows row .whole f;
+          cells = λ y b c f. row-edited (st .shape) row x i packet s (w .packet) (w .store) (w .bytes) (last row) (kept .rows row .whole f)
+              (λ y b c. kept .rows row .cells y b c f) y b c;
+        })
+        (λ r n. record {
+          mark = kept .rows r .mark;
+          whole = kept .rows r .whole;
+          cells = λ y b c f. cells-kept (st .shape) row x i packet s (w .packet) (w .store) (w .bytes) y b r c (λ e. n (e .1)) ∙ kept .rows r .cells y b c f;
+        });
+  }
+
+  -- accepted, it leaves the store of a fresh write, and its packet is last written
+  update-fresh : verdictIn (st .shape) full (update row x i packet) ≡ Accepted
+      → (updateStore st s row x i packet ≡ groupWritten (st .shape) x row (packetsIn (st .shape) (edited (st .shape) (last row) x i packet) x) s)
+      × Edited (st .shape) x i packet (last row) (writtenBy (st .shape) (update row x i packet) last row)
+  update-fresh e =
+      let a = update-judged ∙ e in
+      let w = update-facts st (length s) row x i (length packet) a in
+      let on : full row ≡ true = sym (kept .rows row .mark) ∙ w .full in
+      let whole = kept .rows row .whole on in (
+        rw a (fresh (st .shape) row x i packet s (w .packet) (w .store) (w .bytes) (last row) whole (λ b c. kept .rows row .cells x b c on)),
+        rw (eq-eqb row row refl)
+            (generation-edited (st .shape) (last row) x i packet (w .packet .group) (w .packet .symbol) (w .bytes) whole),
+      )
+
+  update-by : (v : Verdict) → updateRefusal st (length s) row x i (length packet) ≡ v
+      → Done (st .shape) (ifRefused full (fullBy (update row x i packet) full) v) (ifRefused last (writtenBy (st .shape) (update row x i packet) last) v) v st
+      (update row x i packet) (outcomeBy st st v) (ifRefused s (packetUpdated (st .shape) row x i packet s) v)
+  update-by Accepted e =
+      accepted st (update row x i packet) (λ rows. refl) (update-keeps (update-facts st (length s) row x i (length packet) e)) (omega arith)
+  update-by (Refused number place) e = record { keeps = kept; answer = refl; count = omega arith }
 
 -- ---- a release of a row set
 
@@ -155,7 +209,7 @@ module _ (st : State) (s : List ℕ) (full : ℕ → Bool) (last : ℕ → List 
   unfolding releaseSetRefusal
   set-judged = rw (words-sound st (kept .sound), rows-alike 9 set (isFull st) full (λ r _. kept .rows r .mark))
 
-  set-keeps : Held (st .shape) (fullBy (releaseSet set) full) (writtenBy (releaseSet set) last) (rowsEmptied st set) s
+  set-keeps : Held (st .shape) (fullBy (releaseSet set) full) (writtenBy (st .shape) (releaseSet set) last) (rowsEmptied st set) s
   set-keeps = record {
     shape = refl;
     sound = emptied-sound st set (kept .sound);
@@ -173,7 +227,7 @@ module _ (st : State) (s : List ℕ) (full : ℕ → Bool) (last : ℕ → List 
       }
 
   set-by : (v : Verdict) → releaseSetRefusal st set ≡ v
-      → Done (st .shape) (ifRefused full (fullBy (releaseSet set) full) v) (ifRefused last (writtenBy (releaseSet set) last) v) v st (releaseSet set)
+      → Done (st .shape) (ifRefused full (fullBy (releaseSet set) full) v) (ifRefused last (writtenBy (st .shape) (releaseSet set) last) v) v st (releaseSet set)
       (outcomeBy st (rowsEmptied st set) v) s
   set-by Accepted e =
       accepted st (releaseSet set) (λ rows. refl) set-keeps (emptied-count st set (kept .sound) (set-released-facts st set e .full) ∙ omega arith)
@@ -191,7 +245,7 @@ module _ (st : State) (s : List ℕ) (full : ℕ → Bool) (last : ℕ → List 
   )
 
   read-by : (v : Verdict)
-      → Done (st .shape) (ifRefused full (fullBy (read reads out schedule) full) v) (ifRefused last (writtenBy (read reads out schedule) last) v) v st
+      → Done (st .shape) (ifRefused full (fullBy (read reads out schedule) full) v) (ifRefused last (writtenBy (st .shape) (read reads out schedule) last) v) v st
       (read reads out schedule) (record { state = st; answer = answerBy Served v }) s
   read-by Accepted = record { keeps = kept; answer = refl; count = omega arith }
   read-by (Refused number place) = record { keeps = kept; answer = refl; count = omega arith }
@@ -232,6 +286,9 @@ by-operation : (history : History) (memory : Memory) → Agrees (memory .state .
 by-operation history memory k (write row generation) =
     let judged = write-judged (memory .state) (memory .store) _ _ k row generation in
     rw judged (write-by (memory .state) (memory .store) _ _ k row generation _ judged)
+by-operation history memory k (update row x i packet) =
+    let judged = update-judged (memory .state) (memory .store) _ _ k row x i packet in
+    rw judged (update-by (memory .state) (memory .store) _ _ k row x i packet _ judged)
 by-operation history memory k (release row) =
     let judged = release-judged (memory .state) (memory .store) _ _ k row in
     rw judged (release-by (memory .state) (memory .store) _ _ k row _ judged)
@@ -250,6 +307,17 @@ returns : (sh : Shape) (history : History) (memory : Memory) → Agrees sh histo
     → (fullIn sh history (row reads n) ≡ true) × Returned sh memory reads out schedule n (lastWritten sh history (row reads n))
 returns sh history memory k reads out schedule =
     rw (← k .shape) (returned (memory .state) (memory .store) _ _ (rw (← k .shape) at k) reads out schedule)
+
+updated-at : (history : History) (memory : Memory) → Agrees (memory .state .shape) history memory → (row x i : ℕ) (packet : List ℕ)
+    → verdictIn (memory .state .shape) (fullIn (memory .state .shape) history) (update row x i packet) ≡ Accepted
+    → UpdatedIn (memory .state .shape) history memory row x i packet
+updated-at history memory k row x i packet e =
+    let f = update-fresh (memory .state) (memory .store) _ _ k row x i packet e in
+    record { fresh = f .0; last = rw e (f .1) }
+
+updated-in : (sh : Shape) (history : History) (memory : Memory) → Agrees sh history memory → (row x i : ℕ) (packet : List ℕ)
+    → verdictIn sh (fullIn sh history) (update row x i packet) ≡ Accepted → UpdatedIn sh history memory row x i packet
+updated-in sh history memory k = rw (← k .shape) (updated-at history memory (rw (← k .shape) at k))
 
 -- ---- every history
 
@@ -283,6 +351,7 @@ remembers sh history memory k count = record {
   whole = λ r. k .rows r .whole;
   cells = λ x b r. k .rows r .cells x b;
   answers = λ operation. follows sh history memory k operation .answer;
+  updates = updated-in sh history memory k;
   returns = returns sh history memory k;
 }
 

@@ -18,17 +18,20 @@ use Rattle.memory.specs.declared.Outcome.{Outcome}
 use Rattle.memory.specs.declared.Answer.{Answer}
 use Rattle.memory.specs.declared.Answer.the-variants.{FullRows, Served}
 use Rattle.layout.specs.Shape.{mostRows, storeSize, generationSize, CellOf, cellAt}
-use Rattle.rows.specs.Rows.{packetsIn, packetIn}
+use Rattle.rows.specs.Rows.{packetsIn, packetIn, groupWritten, edited}
+use Rattle.rows.specs.Laws.{Edited}
 use Rattle.reads.specs.Reads.{readCount, row, group, symbol}
 use Rattle.reads.specs.Refusals.{listRefusal}
 use Rattle.cycle.specs.Cycle.{xorOfCells}
 use Rattle.cycle.specs.Served.{line}
 use Rattle.memory.specs.State.{isFull, fullRows, Sound}
-use Rattle.memory.specs.Operations.{setUpOf, answerBy, writeChecks, writeOutcome, writeStore, releaseChecks, releaseOutcome, releaseSetChecks, releaseSetOutcome, cycleOutcome, cycleOutput, cycleSchedule}
+use Rattle.memory.specs.Operations.{setUpOf, answerBy, writeChecks, writeOutcome, writeStore, updateChecks, updateOutcome, updateStore, releaseChecks, releaseOutcome, releaseSetChecks, releaseSetOutcome, cycleOutcome, cycleOutput, cycleSchedule}
 
--- What may be asked of a memory: a write of a generation to a row, a release of a row or of a row set, a read cycle with its list and its buffers.
+-- What may be asked of a memory: a write of a generation to a row, an update of one packet of a row, a release of a row or of a row set, a read cycle with
+-- its list and its buffers.
 pub data Operation : Type 0 where
   write : (row : ℕ) (generation : List ℕ) → Operation
+  update : (row x i : ℕ) (packet : List ℕ) → Operation
   release : (row : ℕ) → Operation
   releaseSet : (set : ℕ) → Operation
   read : (reads out schedule : List ℕ) → Operation
@@ -46,12 +49,14 @@ pub record Memory : Type 0 where
 
 abbrev pub outcomeOf : Memory → Operation → Outcome
 outcomeOf memory (write row generation) = writeOutcome (memory .state) (length (memory .store)) row (length generation)
+outcomeOf memory (update row x i packet) = updateOutcome (memory .state) (length (memory .store)) row x i (length packet)
 outcomeOf memory (release row) = releaseOutcome (memory .state) row
 outcomeOf memory (releaseSet set) = releaseSetOutcome (memory .state) set
 outcomeOf memory (read reads out schedule) = cycleOutcome (memory .state) (length (memory .store)) reads (length out) (length schedule)
 
 abbrev pub storeAfter : Memory → Operation → List ℕ
 storeAfter memory (write row generation) = writeStore (memory .state) (memory .store) row generation
+storeAfter memory (update row x i packet) = updateStore (memory .state) (memory .store) row x i packet
 storeAfter memory (release row) = memory .store
 storeAfter memory (releaseSet set) = memory .store
 storeAfter memory (read reads out schedule) = memory .store
@@ -59,6 +64,7 @@ storeAfter memory (read reads out schedule) = memory .store
 -- What an operation puts out.
 abbrev pub packetsBy : Memory → Operation → List ℕ
 packetsBy memory (write row generation) = []
+packetsBy memory (update row x i packet) = []
 packetsBy memory (release row) = []
 packetsBy memory (releaseSet set) = []
 packetsBy memory (read reads out schedule) = cycleOutput (memory .state) (memory .store) reads out schedule
@@ -75,6 +81,7 @@ run new (operation ∷ history) = step (run new history) operation
 -- The verdict on an operation, where these rows are full. A history never leaves a broken state or a store of a wrong length, so 5 and 6 do not occur.
 abbrev pub verdictIn : Shape → (full : ℕ → Bool) → Operation → Verdict
 verdictIn sh full (write row generation) = writeChecks sh full row (length generation)
+verdictIn sh full (update row x i packet) = updateChecks sh full row x i (length packet)
 verdictIn sh full (release row) = releaseChecks sh full row
 verdictIn sh full (releaseSet set) = releaseSetChecks sh full set
 verdictIn sh full (read reads out schedule) = listRefusal sh full reads (length out) (length schedule)
@@ -82,6 +89,7 @@ verdictIn sh full (read reads out schedule) = listRefusal sh full reads (length 
 -- What an accepted operation tells, with this number of full rows.
 abbrev pub toldBy : Operation → ℕ → Answer
 toldBy (write row generation) rows = FullRows rows
+toldBy (update row x i packet) rows = FullRows rows
 toldBy (release row) rows = FullRows rows
 toldBy (releaseSet set) rows = FullRows rows
 toldBy (read reads out schedule) rows = Served
@@ -89,36 +97,41 @@ toldBy (read reads out schedule) rows = Served
 -- The full rows after an accepted operation, and what was then last written to each.
 abbrev pub fullBy : Operation → (ℕ → Bool) → ℕ → Bool
 fullBy (write row generation) full r = cond (eqb row r) true (full r)
+fullBy (update row x i packet) full r = full r
 fullBy (release row) full r = cond (eqb row r) false (full r)
 fullBy (releaseSet set) full r = full r && not (marked set r)
 fullBy (read reads out schedule) full r = full r
 
-abbrev pub writtenBy : Operation → (ℕ → List ℕ) → ℕ → List ℕ
-writtenBy (write row generation) last r = cond (eqb row r) generation (last r)
-writtenBy (release row) last r = last r
-writtenBy (releaseSet set) last r = last r
-writtenBy (read reads out schedule) last r = last r
+abbrev pub writtenBy : Shape → Operation → (ℕ → List ℕ) → ℕ → List ℕ
+writtenBy sh (write row generation) last r = cond (eqb row r) generation (last r)
+writtenBy sh (update row x i packet) last r = cond (eqb row r) (edited sh (last r) x i packet) (last r)
+writtenBy sh (release row) last r = last r
+writtenBy sh (releaseSet set) last r = last r
+writtenBy sh (read reads out schedule) last r = last r
 
 -- Row r is full: of the accepted writes and releases of it, alone or in a set, the last was a write.
 abbrev pub fullIn : Shape → History → ℕ → Bool
 fullIn sh [] = λ r. false
 fullIn sh (operation ∷ history) = ifRefused (fullIn sh history) (fullBy operation (fullIn sh history)) (verdictIn sh (fullIn sh history) operation)
 
--- The generation last written to row r by an accepted write, also where it was released since; nothing where there was none.
+-- The generation last written to row r by an accepted write, with every packet that an accepted update has changed since (02: "last written" includes a
+-- patch); also where it was released since; nothing where there was none.
 abbrev pub lastWritten : Shape → History → ℕ → List ℕ
 lastWritten sh [] = λ r. []
 lastWritten sh (operation ∷ history) =
-    ifRefused (lastWritten sh history) (writtenBy operation (lastWritten sh history)) (verdictIn sh (fullIn sh history) operation)
+    ifRefused (lastWritten sh history) (writtenBy sh operation (lastWritten sh history)) (verdictIn sh (fullIn sh history) operation)
 
 -- How many rows an accepted operation makes full, and how many it makes empty.
 abbrev pub filledBy : Operation → ℕ
 filledBy (write row generation) = 1
+filledBy (update row x i packet) = 0
 filledBy (release row) = 0
 filledBy (releaseSet set) = 0
 filledBy (read reads out schedule) = 0
 
 abbrev pub emptiedBy : Operation → ℕ
 emptiedBy (write row generation) = 0
+emptiedBy (update row x i packet) = 0
 emptiedBy (release row) = 1
 emptiedBy (releaseSet set) = howMany (marked set) mostRows
 emptiedBy (read reads out schedule) = 0
@@ -139,11 +152,19 @@ pub record Returned (sh : Shape) (memory : Memory) (reads out schedule : List �
       (opened (line (cycleSchedule (memory .state) (memory .store) reads out schedule) n))
       ≡ packetIn sh last (group reads n) (symbol reads n)
 
+-- What an update that is accepted does. fresh: the store is then the one after its group was written afresh, in that row, with its packets of the edited
+-- generation. last: what was last written to the row then has the new packet in its place, and every other packet as it was.
+pub record UpdatedIn (sh : Shape) (history : History) (memory : Memory) (row x i : ℕ) (packet : List ℕ) : Type 0 where
+  pub fresh : updateStore (memory .state) (memory .store) row x i packet
+      ≡ groupWritten sh x row (packetsIn sh (edited sh (lastWritten sh history row) x i packet) x) (memory .store)
+  pub last : Edited sh x i packet (lastWritten sh history row) (lastWritten sh (update row x i packet ∷ history) row)
+
 -- shape, sound, size: the shape is that of set-up, the state is not broken, and the store has its length.
 -- marks, count: the rows that are full are those of the history, and as many as accepted writes have filled less those that accepted releases have
 -- emptied.
 -- cells, whole: every cell of a full row is what the code puts there for the generation last written, which has the right length.
--- answers: the next operation is refused as the history says; accepted, a write or a release answers the number of rows that are full with it.
+-- answers: the next operation is refused as the history says; accepted, each but a read cycle answers the number of rows that are full with it.
+-- updates: an update that is accepted leaves what a fresh write of its group's edited packets gives.
 -- returns: a read cycle that is served returns, in the order asked, the packet last written at each read's row, group and symbol; that row is full.
 pub record Remembers (sh : Shape) (history : History) (memory : Memory) : Type 0 where
   pub shape : memory .state .shape ≡ sh
@@ -156,6 +177,8 @@ pub record Remembers (sh : Shape) (history : History) (memory : Memory) : Type 0
   pub whole : (r : ℕ) → fullIn sh history r ≡ true → length (lastWritten sh history r) ≡ generationSize sh
   pub answers : (operation : Operation) → outcomeOf memory operation .answer
       ≡ answerBy (toldBy operation (howMany (fullIn sh (operation ∷ history)) (sh .g))) (verdictIn sh (fullIn sh history) operation)
+  pub updates : (row x i : ℕ) (packet : List ℕ) → verdictIn sh (fullIn sh history) (update row x i packet) ≡ Accepted
+      → UpdatedIn sh history memory row x i packet
   pub returns : (reads out schedule : List ℕ) → outcomeOf memory (read reads out schedule) .answer ≡ Served → (n : ℕ) → n < readCount reads
       → (fullIn sh history (row reads n) ≡ true) × Returned sh memory reads out schedule n (lastWritten sh history (row reads n))
 

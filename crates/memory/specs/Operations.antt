@@ -1,4 +1,4 @@
--- Set-up, write, release of a row or of a row set, and the read cycle: when each is refused, what it answers, and what state, store and buffers it leaves.
+-- Set-up, write, packet update, release of a row or of a row set, and the read cycle: when each is refused, what it answers, and what state, store and buffers it leaves.
 use mathlib.Core.Bool.{Bool, not, _||_}
 use mathlib.Core.List.{List}
 use Prim.Native.Nat.{ℕ}
@@ -9,8 +9,8 @@ use Rattle.refusals.specs.declared.Verdict.{Verdict}
 use Rattle.refusals.specs.declared.Verdict.the-variants.{Accepted, Refused}
 use Rattle.refusals.specs.Verdict.{check, _then_, ifRefused, firstRefusal}
 use Rattle.layout.specs.declared.Shape.{Shape}
-use Rattle.rows.specs.Rows.{rowWritten}
-use Rattle.reads.specs.Refusals.{listRefusal}
+use Rattle.rows.specs.Rows.{rowWritten, packetUpdated}
+use Rattle.reads.specs.Refusals.{packetRefusal, listRefusal}
 use Rattle.cycle.specs.Cycle.{packetsOut, linesOut}
 use Rattle.memory.specs.declared.State.{State}
 use Rattle.memory.specs.declared.SetUp.{SetUp}
@@ -40,7 +40,7 @@ storeRefusal st size = check 5 0 (sound st) then check 6 0 (eqb size (storeSize 
 
 -- ---- write
 
--- Where these rows are full. 7, the row is G or more. 8, the row is full. 10, the generation isn't m·K·P bytes.
+-- With these rows full. 7, the row is G or more. 8, the row is full. 10, the generation isn't m·K·P bytes.
 abbrev pub writeChecks : Shape → (full : ℕ → Bool) → (row len : ℕ) → Verdict
 writeChecks sh full row len = check 7 0 (ltb row (sh .g)) then check 8 0 (not (full row)) then check 10 0 (eqb len (generationSize sh))
 
@@ -53,6 +53,24 @@ writeOutcome st size row len = outcomeBy st (rowToggled st row) (writeRefusal st
 
 abbrev pub writeStore : State → (s : List ℕ) → (row : ℕ) → (generation : List ℕ) → List ℕ
 writeStore st s row generation = ifRefused s (rowWritten (st .shape) row generation s) (writeRefusal st (length s) row (length generation))
+
+-- ---- packet update (02: a patch)
+
+-- With these rows full. 7, the row is G or more. 14, the group is m or more. 15, the symbol is K or more. 9, the row is empty. 10, the packet isn't P
+-- bytes.
+abbrev pub updateChecks : Shape → (full : ℕ → Bool) → (row x i len : ℕ) → Verdict
+updateChecks sh full row x i len = packetRefusal sh full 0 row x i then check 10 0 (eqb len (sh .p))
+
+-- 5 and 6; then 7, 14, 15, 9, 10.
+unfoldable pub updateRefusal : State → (size row x i len : ℕ) → Verdict
+updateRefusal st size row x i len = storeRefusal st size then updateChecks (st .shape) (isFull st) row x i len
+
+-- The state comes back as it was.
+abbrev pub updateOutcome : State → (size row x i len : ℕ) → Outcome
+updateOutcome st size row x i len = outcomeBy st st (updateRefusal st size row x i len)
+
+abbrev pub updateStore : State → (s : List ℕ) → (row x i : ℕ) → (packet : List ℕ) → List ℕ
+updateStore st s row x i packet = ifRefused s (packetUpdated (st .shape) row x i packet s) (updateRefusal st (length s) row x i (length packet))
 
 -- ---- release
 

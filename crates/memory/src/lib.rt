@@ -1,4 +1,4 @@
-// A memory: its state, and the operations that set it up, write a row, release one or several and read packets.
+// A memory: its state, and the operations that set it up, write a row, update a packet of one, release one or several and read packets.
 ghost use mathlib.Core.Path.{_≡_};
 ghost use mathlib.Core.Bool.{true};
 ghost use Prim.Native.Nat.{_<_};
@@ -7,7 +7,7 @@ ghost use Rattle.bits.specs.Marks.{marked, howMany};
 ghost use Rattle.refusals.specs.declared.Verdict.the-variants.{Accepted};
 ghost use Rattle.layout.specs.Shape.{mostRows};
 ghost use Rattle.memory.specs.State.{sound, withFull, rowToggled};
-ghost use Rattle.memory.specs.Operations.{setUpOf, outcomeBy, storeRefusal, writeRefusal, writeOutcome, writeStore, releaseRefusal, releaseOutcome, eachRow, releaseSetRefusal, releaseSetOutcome, cycleOutcome, cycleOutput, cycleSchedule};
+ghost use Rattle.memory.specs.Operations.{setUpOf, outcomeBy, storeRefusal, writeRefusal, writeOutcome, writeStore, updateRefusal, updateOutcome, updateStore, releaseRefusal, releaseOutcome, eachRow, releaseSetRefusal, releaseSetOutcome, cycleOutcome, cycleOutput, cycleSchedule};
 ghost use Rattle.cycle.specs.Served.{PlansAudited, SystematicLines};
 ghost use Rattle.memory.specs.declared.Answer.the-variants.{FullRows, Served, Refused};
 ghost use Rattle.memory.specs.Demand3.{Demand3};
@@ -89,6 +89,24 @@ fn judge_write(state: State, size: usize, row: usize, len: usize) -> Verdict
         return Verdict::Refused(10, 0);
     }
     Verdict::Accepted
+}
+
+// The refusal of an update: 5, 6, 7, 14, 15, 9, 10.
+fn judge_update(state: State, size: usize, row: usize, x: usize, i: usize, len: usize) -> Verdict
+    ensures { λ r. ⌜ r ≡ updateRefusal state size row x i len ⌝ }
+{
+    let lent = judge_store(state, size);
+    if let Verdict::Refused(number, place) = lent {
+        return Verdict::Refused(number, place);
+    }
+    let named = reads::judge_packet(state.shape, state.full, row, x, i, 0);
+    if let Verdict::Refused(number, place) = named {
+        return Verdict::Refused(number, place);
+    }
+    if len == state.shape.p {
+        return Verdict::Accepted;
+    }
+    Verdict::Refused(10, 0)
 }
 
 // The refusal of a release: 5, 7, 9.
@@ -202,6 +220,28 @@ impl State {
         }
         rows::write_row(store, self.shape, row, generation);
         self.toggle_row(row)
+    }
+
+    // Changes one packet of a full row (02: a patch), by its row, group and symbol: the old packet, which is the one in the symbol's systematic bank, and the
+    // new one are XORed into each of the 2^(K-1) banks of the group that hold the symbol, in that row. The state stays as it is. Or refuses: 5, 6, 7, 14,
+    // 15, 9, 10.
+    pub fn update(
+        self,
+        store: &mut [u8],
+        row: usize,
+        group: usize,
+        symbol: usize,
+        packet: &[u8],
+    ) -> Outcome
+        ensures outcome { λ r. ⌜ r ≡ updateOutcome self (length (now (store .entry))) row group symbol (length (now (packet .entry))) ⌝ }
+        ensures store { λ _. ⌜ now (store .exit) ≡ updateStore self (now (store .entry)) row group symbol (now (packet .entry)) ⌝ }
+    {
+        let verdict = judge_update(self, store.len(), row, group, symbol, packet.len());
+        if let Verdict::Refused(number, place) = verdict {
+            return self.refuse(number, place);
+        }
+        rows::update_packet(store, self.shape, row, group, symbol, packet);
+        self.with_full(self.full)
     }
 
     // Makes a full row empty; or refuses: 5, 7, 9. No byte of a store changes: it is given none.

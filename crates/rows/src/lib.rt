@@ -1,10 +1,10 @@
-// A row of a store: its cells, set from a generation.
+// A row of a store: its cells set from a generation, and one packet of it updated.
 ghost use mathlib.Core.Path.{_≡_};
 ghost use Prim.Native.Nat.{_*_, _<_};
 ghost use lib.ListN.{length};
 ghost use Rattle.simplex.specs.Filling.{packetsOf};
 ghost use Rattle.layout.specs.Shape.{InRange, storeSize, generationSize};
-ghost use Rattle.rows.specs.Rows.{groupWritten, rowWritten};
+ghost use Rattle.rows.specs.Rows.{groupWritten, rowWritten, PacketOf, packetUpdated};
 ghost use Rattle.rows.specs.Laws.{TheRows};
 use layout::Shape;
 
@@ -38,4 +38,14 @@ pub fn write_row(store: &mut [u8], shape: Shape, row: usize, generation: &[u8])
         q += len;
         x += 1;
     }
+}
+
+// Changes packet i of group x in a row, in every bank of the group that holds it.
+pub fn update_packet(store: &mut [u8], shape: Shape, row: usize, x: usize, i: usize, packet: &[u8])
+    requires { ⌜ InRange shape × PacketOf shape row x i ⌝ }
+    requires { ⌜ (length (now store) ≡ storeSize shape) × (length (now packet) ≡ shape .p) ⌝ }
+    ensures { λ _. ⌜ now (store .exit) ≡ packetUpdated shape row x i (now (packet .entry)) (now (store .entry)) ⌝ }
+{
+    let first = layout::offset_of(shape, x, 1, row);
+    simplex::update_symbol(store, first, shape.g * shape.p, packet, shape.k, i)
 }

@@ -103,6 +103,12 @@ module _ (P : ℕ) (packets : List Packet) (place : ℕ → ℕ) where
 pub spaced-suc : (at step n : ℕ) → spaced at step (suc n) ≡ at + n * step
 spaced-suc at step n = let e : suc n - 1 ≡ n = omega arith in rw e
 
+pub spaced-more : (at step b : ℕ) → 1 ≤ b → spaced at step (b + 1) ≡ spaced at step b + step
+spaced-more at step b l =
+    let e : suc (b - 1) * step ≡ (b - 1) * step + step = suc-mul (b - 1) step in
+    let f : b + 1 - 1 ≡ suc (b - 1) = omega arith in
+    omega (arith, e, ap (λ (n : ℕ). n * step) f)
+
 pub spaced-add : (at step t n : ℕ) → spaced at step (suc t + suc n) ≡ at + t * step + step + n * step
 spaced-add at step t n =
     let e : suc t + suc n - 1 ≡ suc t + n = omega arith in
@@ -114,7 +120,7 @@ spaced-twice at step t =
     let e : suc t + t - 1 ≡ t + t = omega arith in
     ap (λ (x : ℕ). at + x * step) e ∙ omega (arith, add-mul t t step)
 
-spaced-room : (P at step n size : ℕ) → P ≤ step → spaced at step n + P ≤ size → Room P (spaced at step) n size
+pub spaced-room : (P at step n size : ℕ) → P ≤ step → spaced at step n + P ≤ size → Room P (spaced at step) n size
 spaced-room P at step n size q fits = record { within = within; rising = rising }
   where
     within : (b : ℕ) → 1 ≤ b → b ≤ n → spaced at step b + P ≤ size

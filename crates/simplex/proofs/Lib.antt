@@ -7,4 +7,5 @@ pub mod Limit
 pub mod Requests
 pub mod Tight
 pub mod Filling
+pub mod Updating
 pub mod Running

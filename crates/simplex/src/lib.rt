@@ -1,13 +1,15 @@
-// The code of a group of K symbols: its shape, its limit, and the filling of its banks.
+// The code of a group of K symbols: its shape, its limit, the filling of its banks, and the update of a symbol in them.
 ghost use mathlib.Core.Path.{_≡_};
-ghost use Prim.Native.Nat.{suc, _+_, _*_, _≤_};
+ghost use Prim.Native.Nat.{suc, _+_, _*_, _≤_, _<_};
 ghost use lib.ListN.{length};
-ghost use Rattle.cells.specs.Cell.{put};
+ghost use Rattle.cells.specs.Cell.{cell, put};
+ghost use Rattle.cells.specs.Xor.{xorBytes};
 ghost use Rattle.simplex.specs.Shape.{SymbolsInRange, banksOf, groupOf, degreeOf};
 ghost use Rattle.simplex.specs.Limit.{TheLimit, LimitOfReads, LimitMet};
 ghost use Rattle.simplex.specs.Laws.{TheCode};
 ghost use Rattle.simplex.specs.Filling.{packetsOf, filled, spaced, Fillable};
 ghost use Rattle.simplex.specs.Running.{doubled};
+ghost use Rattle.simplex.specs.Updating.{bankChanged, symbolUpdated, Updatable};
 
 // The bounds of K. A request vector has as many counts as the largest K has symbols.
 pub const LEAST_SYMBOLS: usize = 2;
@@ -100,4 +102,35 @@ pub fn fill_group(store: &mut [u8], at: usize, step: usize, packets: &[u8], p: u
         q += p;
         h += 1;
     }
+}
+
+// XORs the old packet, whose cell is at `from`, and the new one into the cell of bank b, at `at`, if the bank holds symbol i.
+fn update_bank(store: &mut [u8], b: usize, i: usize, at: usize, from: usize, packet: &[u8])
+    requires { ⌜ (i < 64) × (at + length (now packet) ≤ length (now store)) × (from + length (now packet) ≤ at) ⌝ }
+    ensures { λ _. ⌜ now (store .exit) ≡ bankChanged (length (now (packet .entry))) i (xorBytes (cell (now (store .entry)) from (length (now (packet .entry)))) (now (packet .entry))) b at (now (store .entry)) ⌝ }
+{
+    if (b >> i) % 2 == 1 {
+        cells::xor_into(store, at, from, packet)
+    }
+}
+
+// Changes the packet of symbol i in one group's banks in one row of `store`: bank 1 at `at`, each bank `step` after the one before. The systematic bank is
+// the first that holds the symbol, and is set last: the old packet is read there until then, and what the XOR leaves there is the new one. The loop goes
+// upwards, because the compiler finds no vector form of it downwards.
+pub fn update_symbol(store: &mut [u8], at: usize, step: usize, packet: &[u8], k: usize, i: usize)
+    requires { ⌜ Updatable k (length (now packet)) i at step (now store) ⌝ }
+    ensures { λ _. ⌜ now (store .exit) ≡ symbolUpdated (length (now (packet .entry))) i (now (packet .entry)) (spaced at step) (banksOf k) (now (store .entry)) ⌝ }
+{
+    let group = group_of(k);
+    let banks = group.banks;
+    let systematic = 1 << i;
+    let old = at + (systematic - 1) * step;
+    let mut b = systematic;
+    let mut to = old;
+    while b < banks {
+        b += 1;
+        to += step;
+        update_bank(store, b, i, to, old, packet);
+    }
+    cells::copy_into(store, old, packet)
 }

@@ -1,6 +1,7 @@
 -- `simplex::the_code` meets its contract: the laws of the code.
 use Rattle.simplex.proofs.Banks as banks
 use Rattle.simplex.proofs.Filling.{filled-holds, filling-holds}
+use Rattle.simplex.proofs.Updating.{holders, updated, fresh}
 use Rattle.simplex.proofs.Limit.{fails-yields}
 use Rattle.simplex.proofs.Parity.{odd-banks}
 use Rattle.simplex.proofs.the_code.Statement.{statement}
@@ -16,6 +17,9 @@ returns c = record {
   fails = fails-yields;
   holds = λ P packets place n s sized room. filled-holds P packets place sized n s room;
   filling = filling-holds;
+  holders = holders;
+  updated = updated;
+  fresh = fresh;
 }
 
 pub the-code-spec : {M : Type 1} → statement M
