@@ -8,20 +8,20 @@ use native.Mathlib.Omega.{arith}
 use borrow.Author.Tests.{le-leb, lt-leb, eq-eqb, eqb-true}
 use lib.Dec.{eqb}
 use lib.ListN.{length, get_or, drop, drop_of_length-le, replicate, length-replicate, get_or-replicate, get_or-append}
-use lib.Seq.{drop_cons, get_or-append-add}
+use lib.Seq.{drop-cons, get_or-append-add}
 use Rattle.refusals.proofs.Verdicts.{both}
 use Rattle.simplex.specs.Limit.{total, reads_from}
 use Rattle.audit.specs.Audit.{all_zero, rest_of}
 
 module _ (counts : List ℕ) (i : ℕ) (h : i < length counts) where
   pub zero_at : all_zero (drop i counts) ≡ (eqb (get_or counts i 0) 0 && all_zero (drop (i + 1) counts))
-  zero_at = rw (add-one, drop_cons counts i 0)
+  zero_at = rw (add-one, drop-cons counts i 0)
 
   pub total_at : total (drop i counts) ≡ get_or counts i 0 + total (drop (i + 1) counts)
-  total_at = rw (add-one, drop_cons counts i 0)
+  total_at = rw (add-one, drop-cons counts i 0)
 
   reads_at : reads_from i (drop i counts) ≡ replicate (get_or counts i 0) i ++ reads_from (i + 1) (drop (i + 1) counts)
-  reads_at = rw (add-one, drop_cons counts i 0)
+  reads_at = rw (add-one, drop-cons counts i 0)
 
   pub read_here : (n : ℕ) → n < get_or counts i 0 → get_or (reads_from i (drop i counts)) n 0 ≡ i
   read_here n l =

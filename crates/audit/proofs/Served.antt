@@ -4,7 +4,7 @@ use mathlib.Core.Logic.{inl, inr}
 use mathlib.Core.Bool.{Bool, true, false, false≢true}
 use mathlib.Core.List.{List, [], ◌∷◌, map}
 use Prim.Native.Nat.{ℕ, zero, suc, ◌-◌, ◌≤◌, ◌<◌, suc-le-suc}
-use native.Mathlib.Nat.{le_refl, lt_of_not_le}
+use native.Mathlib.Nat.{le_refl, lt_of_not-le}
 use native.Mathlib.Omega.{arith, by_contra}
 use lib.Bits.{bit_xor, xor_lt, xor_zero_r}
 use lib.Pow.{pow_mono, lt_of_le_ones}
@@ -24,7 +24,7 @@ use Rattle.audit.proofs.Reading.{serves_at, sound}
 
 symbol_less : (K i : ℕ) (p : Pair) → Serves K i p → i < K
 symbol_less K i p s =
-    lt_of_not_le (λ (h : K ≤ i). omega (arith, xor_lt K p.a p.b (lt_of_le_ones K s.first_to) (lt_of_le_ones K s.second_to), pow_mono h))
+    lt_of_not-le (λ (h : K ≤ i). omega (arith, xor_lt K p.a p.b (lt_of_le_ones K s.first_to) (lt_of_le_ones K s.second_to), pow_mono h))
 
 pub opens_xor : (a b : ℕ) → xor_of_numbers (opens a b) ≡ bit_xor a b
 opens_xor a zero = refl

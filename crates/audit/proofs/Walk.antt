@@ -6,7 +6,7 @@ use Prim.Native.Nat.{ℕ, zero, suc, ◌*◌, ◌/◌, ◌≤◌, ◌<◌}
 use native.Mathlib.Omega.{arith}
 use borrow.Author.Tests.{ne_eqb}
 use lib.ListN.{length, get_or, drop, drop_of_length-le}
-use lib.Seq.{drop_cons}
+use lib.Seq.{drop-cons}
 use Rattle.bits.specs.Marks.{marked}
 use Rattle.simplex.specs.Code.{Banks}
 use Rattle.simplex.specs.Limit.{total, reads_of}
@@ -110,7 +110,7 @@ module _ {K : ℕ} {counts bytes : List ℕ} {m n used i : ℕ} (t : Turn K coun
   reads_at : drop m (reads_of counts) ≡ i ∷ drop n (reads_of counts)
   reads_at =
       let l : m < length (reads_of counts) = rw (length_reads counts) (omega arith) in
-      drop_cons (reads_of counts) m 0 l ∙ ap₂ (λ (x k : ℕ). x ∷ drop k (reads_of counts)) (sym t.symbol) t.next
+      drop-cons (reads_of counts) m 0 l ∙ ap₂ (λ (x k : ℕ). x ∷ drop k (reads_of counts)) (sym t.symbol) t.next
 
   pairs_at : drop m (pairs_of bytes) ≡ pair_in bytes m ∷ drop n (pairs_of bytes)
   pairs_at = pair_at_lem bytes m (omega arith) ∙ ap (λ (k : ℕ). pair_in bytes m ∷ drop k (pairs_of bytes)) t.next

@@ -1,4 +1,6 @@
 // The judging of a request's counts, and the audit of a plan.
+#![tactic(auto)]
+
 ghost use Rattle.std.specs.Prelude.{◌≡◌, ◌*◌, ◌<◌, length, get_or};
 ghost use Rattle.simplex.specs.Shape.{SymbolsInRange, most_symbols};
 ghost use Rattle.simplex.specs.Limit.{total, reads_of};
@@ -11,7 +13,7 @@ use refusals::Verdict;
 use simplex::{LEAST_SYMBOLS, MOST_SYMBOLS};
 
 // What the audit answers: yes, no, or a refusal with its number and place.
-#[derive(Drop)]
+#[derive(Clone, Copy)]
 pub enum Audited {
     Yes,
     No,
@@ -19,7 +21,7 @@ pub enum Audited {
 }
 
 // Whether counts total no more than a number, and what they leave of it: nothing where they total more.
-#[derive(Drop)]
+#[derive(Clone, Copy)]
 pub struct Rest {
     pub fits: bool,
     pub left: usize,

@@ -1,4 +1,6 @@
 // Sets of numbers below 64, as marks in one word.
+#![tactic(auto)]
+
 ghost use Rattle.std.specs.Prelude.{◌≡◌, ◌&&◌, not, ◌≤◌, ◌<◌, ltb};
 ghost use Rattle.bits.specs.Marks.{marked, toggled, none_from, how_many, TheMarks};
 ghost use Rattle.bits.specs.Sets.{set_of, First, TheSets};

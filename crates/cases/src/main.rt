@@ -23,7 +23,7 @@ use simplex::{MOST_PAIRS, MOST_SYMBOLS};
 // What a run over many requests counts: those within the limit, the plans that the audit says yes to and their pairs, the plans that open one bank a
 // read for requests that read no symbol twice, the requests of one read more, the refusals by number 12, and the plans, each with the banks of its
 // first pair exchanged, that the audit says no to.
-#[derive(Drop)]
+#[derive(Clone, Copy)]
 struct Tally {
     within: u64,
     passed: u64,
@@ -35,7 +35,7 @@ struct Tally {
 }
 
 // The numbers of a line of standard input, and which of them is being read.
-#[derive(Drop)]
+#[derive(Clone, Copy)]
 struct Line {
     numbers: [usize; MOST_SYMBOLS + 1],
     at: usize,

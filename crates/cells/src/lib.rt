@@ -1,4 +1,6 @@
 // Functions on bytes: each sets one cell of a slice, or the whole slice.
+#![tactic(auto)]
+
 ghost use Rattle.std.specs.Prelude.{◌≡◌, ◌⊎◌, ◌+◌, ◌≤◌, length};
 ghost use Rattle.cells.specs.Cell.{cell, put};
 ghost use Rattle.cells.specs.Xor.{xor_bytes, zeros};

@@ -23,7 +23,7 @@ use simplex::{MOST_PAIRS, MOST_SYMBOLS};
 const ALL_PAIRS: usize = MOST_GROUPS * MOST_PAIRS;
 
 // The plans of all groups, and for each symbol of each group where its next pair stands in them.
-#[derive(Drop)]
+#[derive(Clone, Copy)]
 struct Plans {
     first: [u8; ALL_PAIRS],
     second: [u8; ALL_PAIRS],
@@ -31,7 +31,7 @@ struct Plans {
 }
 
 // What planning all groups gives: the plans, or the refusal of the lowest group that has too many reads.
-#[derive(Drop)]
+#[derive(Clone, Copy)]
 struct Planning {
     verdict: Verdict,
     plans: Plans,

@@ -20,7 +20,7 @@ pub const MOST_OUTPUT: usize = 2 * (2 + MOST_STORE) + 1;
 
 // A frame, by its first byte; unknown where that or its length is wrong. The packets of a write and the reads of a cycle are the bytes behind
 // these fields.
-#[derive(Drop)]
+#[derive(Clone, Copy)]
 pub enum Frame {
     SetUp(Shape),
     Write(usize),

@@ -1,4 +1,6 @@
 // The shape of a memory: its ranges, its sizes, and where each cell lies.
+#![tactic(auto)]
+
 ghost use Rattle.std.specs.Prelude.{◌≡◌};
 ghost use Rattle.layout.specs.Shape.{shape_refusal, InRange, store_size, generation_size, CellOf, offset};
 ghost use Rattle.layout.specs.Laws.{TheLayout};
@@ -14,7 +16,7 @@ const MOST_PACKET_BYTES: usize = 2048;
 pub const MOST_ROWS: usize = 64;
 
 // K symbols in a group, m groups, P bytes in a packet, G rows.
-#[derive(Drop)]
+#[derive(Clone, Copy)]
 pub struct Shape {
     pub k: usize,
     pub m: usize,

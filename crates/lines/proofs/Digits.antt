@@ -11,7 +11,7 @@ use borrow.Author.Tests.{lt-ltb, le-ltb, le-leb, lt-leb, ltb-true, eqb-true}
 use lib.Dec.{ltb, eqb}
 use lib.ListN.{length, get_or, take, drop, set}
 use lib.Pow.{are_bytes}
-use lib.Seq.{drop_cons}
+use lib.Seq.{drop-cons}
 use Rattle.refusals.specs.Verdict.{between, check}
 use Rattle.refusals.proofs.Verdicts.{both, between_words, check_passed, all_accepted}
 use Rattle.cells.specs.Cell.{put}
@@ -122,7 +122,7 @@ digit_at (b ∷ bytes) (suc i) h = rw ((next_two i).1, (next_two i).0) (digit_at
 -- a turn that tests element i
 pub each_turn : (test : ℕ → Bool) (l : List ℕ) (i : ℕ) (t : Bool) → i < length l → each test l ≡ each test (drop i l) → test (get_or l i 0) ≡ t
     → each test l ≡ (t && each test (drop (i + 1) l))
-each_turn test l i t h e p = e ∙ rw (add-one, drop_cons l i 0 h, p)
+each_turn test l i t h e p = e ∙ rw (add-one, drop-cons l i 0 h, p)
 
 -- one that puts byte i of t, and one that puts two
 pub put_next : (s t : List ℕ) (i : ℕ) (l : List ℕ) (v : ℕ) → i < length t → l ≡ put s 0 (take i t) → v ≡ get_or t i 0

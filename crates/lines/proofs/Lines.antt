@@ -9,7 +9,7 @@ use native.Mathlib.Omega.{arith}
 use borrow.Author.Tests.{eqb-true, ltb-true, ltb-false, lt-ltb, le-ltb, eq-eqb, ne_eqb}
 use lib.Dec.{eqb, ltb}
 use lib.ListN.{length, get_or, take, drop, length-drop, drop_of_length-le}
-use lib.Seq.{drop_cons, drop-drop}
+use lib.Seq.{drop-cons, drop-drop}
 use Rattle.lines.specs.Lines.{line_feed, in_front, lines_of, first_line, line_end, line_at, each, no_line_feed, joined, closed}
 use Rattle.lines.specs.Laws.{TheLines}
 
@@ -74,13 +74,13 @@ module _ (text : List ℕ) (at : ℕ) where
   -- it ends at a line feed, goes on at another character, and ends with the text
   pub end_here : at < length text → get_or text at 0 ≡ line_feed → at ≡ line_end text at
   end_here h e =
-      let l : length (first_line (drop at text)) ≡ 0 = rw (drop_cons text at 0 h) (first_here _ (drop (suc at) text) e) in
+      let l : length (first_line (drop at text)) ≡ 0 = rw (drop-cons text at 0 h) (first_here _ (drop (suc at) text) e) in
       omega arith
 
   pub end_more : at < length text → (get_or text at 0 ≡ line_feed → ⊥) → line_end text at ≡ line_end text (at + 1)
   end_more h e =
       let l : length (first_line (drop at text)) ≡ suc (length (first_line (drop (at + 1) text)))
-      = rw (add-one at, drop_cons text at 0 h) (first_more _ (drop (suc at) text) e) in
+      = rw (add-one at, drop-cons text at 0 h) (first_more _ (drop (suc at) text) e) in
       omega arith
 
   pub end_none : length text ≤ at → at ≡ line_end text at

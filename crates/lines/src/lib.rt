@@ -1,4 +1,6 @@
 // The lines of a text, a reader of them, and hexadecimal.
+#![tactic(auto)]
+
 ghost use Rattle.lines.specs.Laws.{TheLines, TheDigits};
 
 pub mod hex;

@@ -3,14 +3,14 @@ ghost use Rattle.std.specs.Prelude.{◌≡◌};
 ghost use Rattle.lines.specs.Lines.{line_end, line_at};
 
 // A line: where it ends, and where the next one starts.
-#[derive(Drop)]
+#[derive(Clone, Copy)]
 pub struct Line {
     pub end: usize,
     pub next: usize,
 }
 
 // A text, and how far it has been read.
-#[derive(Drop)]
+#[derive(Clone, Copy)]
 pub struct Reader<'a> {
     pub text: &'a [u8],
     pub at: usize,

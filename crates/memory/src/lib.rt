@@ -14,14 +14,14 @@ use layout::{MOST_ROWS, Shape};
 use refusals::Verdict;
 
 // What a memory's operations are given and give back. Row r is full where it is marked in `full`.
-#[derive(Drop)]
+#[derive(Clone, Copy)]
 pub struct State {
     pub shape: Shape,
     pub full: u64,
 }
 
 // What set-up gives: the state, and whether it was accepted.
-#[derive(Drop)]
+#[derive(Clone, Copy)]
 pub struct SetUp {
     pub state: State,
     pub verdict: Verdict,
@@ -29,7 +29,7 @@ pub struct SetUp {
 
 // What an operation answers: the number of full rows, if it changes the state or the store; that a read cycle is served; or a refusal with its
 // number and place.
-#[derive(Drop)]
+#[derive(Clone, Copy)]
 pub enum Answer {
     FullRows(usize),
     Served,
@@ -37,7 +37,7 @@ pub enum Answer {
 }
 
 // What an operation gives: the state, and its answer.
-#[derive(Drop)]
+#[derive(Clone, Copy)]
 pub struct Outcome {
     pub state: State,
     pub answer: Answer,

@@ -1,9 +1,11 @@
 // How an operation says no.
+#![tactic(auto)]
+
 ghost use Rattle.std.specs.Prelude.{◌≡◌};
 ghost use Rattle.refusals.specs.Verdict.{between};
 
 // Accepted, or refused with the refusal's number and place.
-#[derive(Drop)]
+#[derive(Clone, Copy)]
 pub enum Verdict {
     Accepted,
     Refused(u8, usize),

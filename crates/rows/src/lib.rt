@@ -1,4 +1,6 @@
 // A row of a store: its cells set from a generation, and one packet of it updated.
+#![tactic(auto)]
+
 ghost use Rattle.std.specs.Prelude.{◌≡◌, ◌*◌, ◌<◌, length};
 ghost use Rattle.simplex.specs.Filling.{packets_of};
 ghost use Rattle.layout.specs.Shape.{InRange, store_size, generation_size};

@@ -1,4 +1,6 @@
 // The code of a group of K symbols: its shape, its limit, the filling of its banks, and the update of a symbol in them.
+#![tactic(auto)]
+
 ghost use Rattle.std.specs.Prelude.{◌≡◌, suc, ◌+◌, ◌*◌, ◌≤◌, ◌<◌, length};
 ghost use Rattle.cells.specs.Cell.{cell, put};
 ghost use Rattle.cells.specs.Xor.{xor_bytes};
@@ -18,7 +20,7 @@ pub const MOST_SYMBOLS: usize = 5;
 pub const MOST_PAIRS: usize = 1 << (MOST_SYMBOLS - 1);
 
 // What K fixes: the banks of a group, and the most reads that it serves in a cycle.
-#[derive(Drop)]
+#[derive(Clone, Copy)]
 pub struct Group {
     pub banks: usize,
     pub limit: usize,

@@ -19,21 +19,21 @@ pub const MOST_TEXT: usize = 32768;
 const MOST_SCHEDULE: usize = MOST_FRAME / 3 * 2;
 
 // What a session has from line to line, beside its store: the memory of the last accepted 01, if there was one.
-#[derive(Drop)]
+#[derive(Clone, Copy)]
 pub enum Session {
     Fresh,
     Running(State),
 }
 
 // What a line gives, or a text: the session, and how long its output is.
-#[derive(Drop)]
+#[derive(Clone, Copy)]
 pub struct Reply {
     pub session: Session,
     pub len: usize,
 }
 
 // What the next line of a text gives: its reply, and where the line after it starts.
-#[derive(Drop)]
+#[derive(Clone, Copy)]
 pub struct Next {
     pub reply: Reply,
     pub at: usize,

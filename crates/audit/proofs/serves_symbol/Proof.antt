@@ -9,27 +9,27 @@ use Rattle.audit.proofs.Pairs.{last_test, not_serving}
 use Rattle.audit.proofs.serves_symbol.Statement.{statement}
 use Rattle.audit.proofs.serves_symbol.Tie as tie
 
-group-of-requires : tie.Need-group-of-requires
-group-of-requires c κs = search rules
+group_of-group-requires : tie.Need-group_of-group-requires
+group_of-group-requires c κs = search rules
+
+returns-then-a-lt1 : tie.Need-returns-then-a-lt1
+returns-then-a-lt1 c =
+    let a = c.before.before.args in
+    let n = banks_of_lem c.before.before.args.k c.before.group_of-group.ensures in
+    not_serving a.k a.i (record { a = a.a; b = a.b })
+    (λ s. ⊎_elim (λ w. omega arith) (⊎_elim (λ w. omega (arith, ltb-true)) (⊎_elim (λ w. omega (arith, ltb-true)) (λ w. omega (arith, leb-true))))
+    c.then-a-lt1.branch)
+
+overflow_shl-result : tie.Need-overflow_shl-result
+overflow_shl-result c = search rules
 
 returns : tie.Need-returns
 returns c =
-    let a = c.before.before.args in
-    let n = banks_of_lem c.before.before.args.k c.before.Group-of.ensures in
-    not_serving a.k a.i (record { a = a.a; b = a.b })
-    (λ s. ⊎_elim (λ w. omega arith) (⊎_elim (λ w. omega (arith, ltb-true)) (⊎_elim (λ w. omega (arith, ltb-true)) (λ w. omega (arith, leb-true))))
-    c.if1.branch)
-
-shl-result : tie.Need-overflow-shl-result
-shl-result c = search rules
-
-returns-2 : tie.Need-returns-2
-returns-2 c =
     let e = c.before.before.before.before.before.before in
     let a = e.before.args in
-    let n = banks_of_lem e.before.args.k e.Group-of.ensures in
+    let n = banks_of_lem e.before.args.k e.group_of-group.ensures in
     rw (one_shl a.i 64 (omega arith))
     (last_test a.k a.i a.a a.b (omega arith) (omega (arith, ltb-false)) (omega (arith, ltb-false)) (omega (arith, leb-false)))
 
 pub serves_symbol_spec : {M : Type 1} → statement M
-serves_symbol_spec = tie.close (tie.spec group-of-requires returns shl-result returns-2)
+serves_symbol_spec = tie.close (tie.spec group_of-group-requires returns-then-a-lt1 overflow_shl-result returns)

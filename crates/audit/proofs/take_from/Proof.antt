@@ -10,47 +10,47 @@ use Rattle.audit.proofs.Requests.{total_at, total_none, rest_none, rest_some}
 use Rattle.audit.proofs.take_from.Statement.{statement}
 use Rattle.audit.proofs.take_from.Tie as tie
 
-abbrev invariant-loop : tie.invariant-loop
-invariant-loop room counts left₀ i₀ left i = (i ≤ most_symbols) × (left ≤ room) × (total counts + left ≡ room + total (drop i counts))
+abbrev invariant-loop-i : tie.invariant-loop-i
+invariant-loop-i room counts left₀ i₀ left i = (i ≤ most_symbols) × (left ≤ room) × (total counts + left ≡ room + total (drop i counts))
 
-abbrev decreases-loop : tie.decreases-loop
-decreases-loop room counts left₀ i₀ left i = most_symbols - i
+abbrev decreases-loop-i : tie.decreases-loop-i
+decreases-loop-i room counts left₀ i₀ left i = most_symbols - i
 
-loop-holds : tie.Need-loop-init invariant-loop decreases-loop
-loop-holds c = omega arith
+loop-i-init : tie.Need-loop-i-init invariant-loop-i decreases-loop-i
+loop-i-init c = omega arith
 
-mul-c : tie.Need-overflow-mul-c invariant-loop decreases-loop
-mul-c c = search rules
+offset_bounds-counts-i : tie.Need-offset_bounds-counts-i invariant-loop-i decreases-loop-i
+offset_bounds-counts-i c = search rules
 
-array-read-c : tie.Need-array-read-c invariant-loop decreases-loop
-array-read-c c = search rules
+bounds-counts-i : tie.Need-bounds-counts-i invariant-loop-i decreases-loop-i
+bounds-counts-i c = search rules
 
-returns : tie.Need-returns invariant-loop decreases-loop
-returns c =
+returns-then-left-c : tie.Need-returns-then-left-c invariant-loop-i decreases-loop-i
+returns-then-left-c c =
     let st = c.before.before.before in
     let n : length st.args.t2 ≡ most_symbols = search rules in
-    let e = total_at st.args.t2 c.before.before.loop.i (omega arith) in
+    let e = total_at st.args.t2 c.before.before.loop-i.i (omega arith) in
     rest_none st.args.room st.args.t2 (omega arith)
 
-add-i : tie.Need-overflow-add-i invariant-loop decreases-loop
-add-i c = search rules
+overflow_add-i : tie.Need-overflow_add-i invariant-loop-i decreases-loop-i
+overflow_add-i c = search rules
 
-loop-less : tie.Need-loop-smaller invariant-loop decreases-loop
-loop-less c = omega arith
+loop-i-smaller : tie.Need-loop-i-smaller invariant-loop-i decreases-loop-i
+loop-i-smaller c = omega arith
 
-loop-again : tie.Need-loop-preserved invariant-loop decreases-loop
-loop-again c =
+loop-i-preserved : tie.Need-loop-i-preserved invariant-loop-i decreases-loop-i
+loop-i-preserved c =
     let st = c.before.before.before in
     let n : length st.args.t2 ≡ most_symbols = search rules in
-    omega (arith, total_at st.args.t2 c.before.before.loop.i (omega arith))
+    omega (arith, total_at st.args.t2 c.before.before.loop-i.i (omega arith))
 
-returns-2 : tie.Need-returns-2 invariant-loop decreases-loop
-returns-2 c =
+returns : tie.Need-returns invariant-loop-i decreases-loop-i
+returns c =
     let st = c.before.before in
     let n : length st.args.t2 ≡ most_symbols = search rules in
-    let e = total_none st.args.t2 c.before.loop.i (omega arith) in
+    let e = total_none st.args.t2 c.before.loop-i.i (omega arith) in
     rest_some st.args.room st.args.t2 _ (omega arith)
 
 pub take_from_spec : {M : Type 1} → statement M
 take_from_spec =
-    tie.close (tie.spec invariant-loop decreases-loop loop-holds mul-c array-read-c returns add-i loop-less loop-again returns-2)
+    tie.close (tie.spec invariant-loop-i decreases-loop-i loop-i-init offset_bounds-counts-i bounds-counts-i returns-then-left-c overflow_add-i loop-i-smaller loop-i-preserved returns)

@@ -11,14 +11,14 @@ a_bank : (s b : ℕ) → (b ≡ 0 → ⊥) → toggled s b ≡ bank_toggled s b
 a_bank s zero ne = absurd (ne refl)
 a_bank s (suc b) ne = refl
 
-returns : tie.Need-returns
-returns c = search rules
+returns-then-b-eq0 : tie.Need-returns-then-b-eq0
+returns-then-b-eq0 c = search rules
 
 toggle-requires : tie.Need-toggle-requires
 toggle-requires c κs = search rules
 
-returns-2 : tie.Need-returns-2
-returns-2 c = c.toggle.ensures ∙ a_bank _ _ c.before.if1.false
+returns : tie.Need-returns
+returns c = c.toggle.ensures ∙ a_bank _ _ c.before.if-b-eq0.false
 
 pub toggle_bank_spec : {M : Type 1} → statement M
-toggle_bank_spec = tie.close (tie.spec returns toggle-requires returns-2)
+toggle_bank_spec = tie.close (tie.spec returns-then-b-eq0 toggle-requires returns)

@@ -9,36 +9,36 @@ use Rattle.cells.proofs.Turns.{set_more}
 use Rattle.cells.proofs.clear.Statement.{statement}
 use Rattle.cells.proofs.clear.Tie as tie
 
-abbrev invariant-loop : tie.invariant-loop
-invariant-loop s₀ i₀ s i = (i ≤ length s) × (length s ≡ length s₀) × ((j : ℕ) → j < i → get_or s j 0 ≡ 0)
+abbrev invariant-loop-i : tie.invariant-loop-i
+invariant-loop-i s₀ i₀ s i = (i ≤ length s) × (length s ≡ length s₀) × ((j : ℕ) → j < i → get_or s j 0 ≡ 0)
 
-abbrev decreases-loop : tie.decreases-loop
-decreases-loop s₀ i₀ s i = length s - i
+abbrev decreases-loop-i : tie.decreases-loop-i
+decreases-loop-i s₀ i₀ s i = length s - i
 
-loop-holds : tie.Need-loop-init invariant-loop decreases-loop
-loop-holds c = (omega arith, refl, λ j l. absurd (omega arith))
+loop-i-init : tie.Need-loop-i-init invariant-loop-i decreases-loop-i
+loop-i-init c = (omega arith, refl, λ j l. absurd (omega arith))
 
-slice-write-s : tie.Need-slice-write-s invariant-loop decreases-loop
-slice-write-s c = omega arith
+bounds-s-i : tie.Need-bounds-s-i invariant-loop-i decreases-loop-i
+bounds-s-i c = omega arith
 
-add-i : tie.Need-overflow-add-i invariant-loop decreases-loop
-add-i c = omega arith
+overflow_add-i : tie.Need-overflow_add-i invariant-loop-i decreases-loop-i
+overflow_add-i c = omega arith
 
-loop-less : tie.Need-loop-smaller invariant-loop decreases-loop
-loop-less c = simp length-set (omega arith)
+loop-i-smaller : tie.Need-loop-i-smaller invariant-loop-i decreases-loop-i
+loop-i-smaller c = simp length-set (omega arith)
 
-loop-again : tie.Need-loop-preserved invariant-loop decreases-loop
-loop-again c =
-    (simp length-set (omega arith), simp length-set (omega arith), set_more c.before.loop.s c.before.loop.i 0 (λ _. 0) (omega arith) refl c.before.loop.invariant.2)
+loop-i-preserved : tie.Need-loop-i-preserved invariant-loop-i decreases-loop-i
+loop-i-preserved c =
+    (simp length-set (omega arith), simp length-set (omega arith), set_more c.before.loop-i.s c.before.loop-i.i 0 (λ _. 0) (omega arith) refl c.before.loop-i.invariant.2)
 
-same_length : tie.Need-same-length invariant-loop decreases-loop
-same_length c = omega arith
+shape_of-s : tie.Need-shape_of-s invariant-loop-i decreases-loop-i
+shape_of-s c = omega arith
 
-returns : tie.Need-returns invariant-loop decreases-loop
+returns : tie.Need-returns invariant-loop-i decreases-loop-i
 returns c =
     let n = length c.before.before.args.s.now in
-    ext_get_or 0 _ (zeros n) (c.before.loop.invariant.1 ∙ sym (length-replicate n 0))
-    (λ j l. c.before.loop.invariant.2 j (omega arith) ∙ sym (get_or-replicate n j 0 0 (omega arith)))
+    ext_get_or 0 _ (zeros n) (c.before.loop-i.invariant.1 ∙ sym (length-replicate n 0))
+    (λ j l. c.before.loop-i.invariant.2 j (omega arith) ∙ sym (get_or-replicate n j 0 0 (omega arith)))
 
 pub clear_spec : {M : Type 1} → statement M
-clear_spec = tie.close (tie.spec invariant-loop decreases-loop loop-holds slice-write-s add-i loop-less loop-again same_length returns)
+clear_spec = tie.close (tie.spec invariant-loop-i decreases-loop-i loop-i-init bounds-s-i overflow_add-i loop-i-smaller loop-i-preserved shape_of-s returns)

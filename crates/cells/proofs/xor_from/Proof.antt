@@ -11,42 +11,42 @@ use Rattle.cells.proofs.Turns.{put_more, put_all, length_xor_cell, byte_xor_cell
 use Rattle.cells.proofs.xor_from.Statement.{statement}
 use Rattle.cells.proofs.xor_from.Tie as tie
 
-abbrev invariant-loop : tie.invariant-loop
-invariant-loop s₀ at from src i₀ s i =
+abbrev invariant-loop-i : tie.invariant-loop-i
+invariant-loop-i s₀ at from src i₀ s i =
     (i ≤ length src) × (length s ≡ length s₀) × (s ≡ put s₀ at (take i (xor_bytes (cell s₀ from (length src)) src)))
 
-abbrev decreases-loop : tie.decreases-loop
-decreases-loop s₀ at from src i₀ s i = length src - i
+abbrev decreases-loop-i : tie.decreases-loop-i
+decreases-loop-i s₀ at from src i₀ s i = length src - i
 
-loop-holds : tie.Need-loop-init invariant-loop decreases-loop
-loop-holds c = (omega arith, refl, put_none _ _)
+loop-i-init : tie.Need-loop-i-init invariant-loop-i decreases-loop-i
+loop-i-init c = (omega arith, refl, put_none _ _)
 
-add-s : tie.Need-overflow-add-s invariant-loop decreases-loop
-add-s c = omega arith
+overflow_add-s : tie.Need-overflow_add-s invariant-loop-i decreases-loop-i
+overflow_add-s c = omega arith
 
-slice-read-s : tie.Need-slice-read-s invariant-loop decreases-loop
-slice-read-s c = omega arith
+bounds-s-from : tie.Need-bounds-s-from invariant-loop-i decreases-loop-i
+bounds-s-from c = omega arith
 
-shared-slice-read-s : tie.Need-shared-slice-read-s invariant-loop decreases-loop
-shared-slice-read-s c = omega arith
+bounds-src-i : tie.Need-bounds-src-i invariant-loop-i decreases-loop-i
+bounds-src-i c = omega arith
 
-add-s-2 : tie.Need-overflow-add-s-2 invariant-loop decreases-loop
-add-s-2 c = omega arith
+overflow_add-s-in-loop-i : tie.Need-overflow_add-s-in-loop-i invariant-loop-i decreases-loop-i
+overflow_add-s-in-loop-i c = omega arith
 
-slice-write-s : tie.Need-slice-write-s invariant-loop decreases-loop
-slice-write-s c = omega arith
+bounds-s-at : tie.Need-bounds-s-at invariant-loop-i decreases-loop-i
+bounds-s-at c = omega arith
 
-add-i : tie.Need-overflow-add-i invariant-loop decreases-loop
-add-i c = omega arith
+overflow_add-i : tie.Need-overflow_add-i invariant-loop-i decreases-loop-i
+overflow_add-i c = omega arith
 
-loop-less : tie.Need-loop-smaller invariant-loop decreases-loop
-loop-less c = omega arith
+loop-i-smaller : tie.Need-loop-i-smaller invariant-loop-i decreases-loop-i
+loop-i-smaller c = omega arith
 
-loop-again : tie.Need-loop-preserved invariant-loop decreases-loop
-loop-again c =
+loop-i-preserved : tie.Need-loop-i-preserved invariant-loop-i decreases-loop-i
+loop-i-preserved c =
     let st = c.before.before.before.before in
     let a = st.args in
-    let l = c.before.before.before.loop in
+    let l = c.before.before.before.loop-i in
     let h : a.from + length a.src.now ≤ length a.s.now = omega arith in
     let n = length_xor_cell a.s.now a.from (length a.src.now) a.src.now h refl in (
       omega arith,
@@ -57,16 +57,16 @@ loop-again c =
           ∙ byte_xor_cell a.s.now a.from (length a.src.now) a.src.now l.i (omega arith) h refl),
     )
 
-same_length : tie.Need-same-length invariant-loop decreases-loop
-same_length c = omega arith
+shape_of-s : tie.Need-shape_of-s invariant-loop-i decreases-loop-i
+shape_of-s c = omega arith
 
-returns : tie.Need-returns invariant-loop decreases-loop
+returns : tie.Need-returns invariant-loop-i decreases-loop-i
 returns c =
     let a = c.before.before.args in
     let n = length_xor_cell a.s.now a.from (length a.src.now) a.src.now (omega arith) refl in
-    put_all _ _ _ c.before.loop.i _ (omega arith) c.before.loop.invariant.2
+    put_all _ _ _ c.before.loop-i.i _ (omega arith) c.before.loop-i.invariant.2
 
 pub xor_from_spec : {M : Type 1} → statement M
 xor_from_spec =
     tie.close
-    (tie.spec invariant-loop decreases-loop loop-holds add-s slice-read-s shared-slice-read-s add-s-2 slice-write-s add-i loop-less loop-again same_length returns)
+    (tie.spec invariant-loop-i decreases-loop-i loop-i-init overflow_add-s bounds-s-from bounds-src-i overflow_add-s-in-loop-i bounds-s-at overflow_add-i loop-i-smaller loop-i-preserved shape_of-s returns)

@@ -21,11 +21,11 @@ change s from src = xor_bytes (cell s from (length src)) src
 abbrev whole : (s : List ℕ) (at from : ℕ) (src : List ℕ) → List ℕ
 whole s at from src = xor_bytes (cell s at (length src)) (change s from src)
 
-abbrev invariant-loop : tie.invariant-loop
-invariant-loop s₀ at from src i₀ s i = (i ≤ length src) × (length s ≡ length s₀) × (s ≡ put s₀ at (take i (whole s₀ at from src)))
+abbrev invariant-loop-i : tie.invariant-loop-i
+invariant-loop-i s₀ at from src i₀ s i = (i ≤ length src) × (length s ≡ length s₀) × (s ≡ put s₀ at (take i (whole s₀ at from src)))
 
-abbrev decreases-loop : tie.decreases-loop
-decreases-loop s₀ at from src i₀ s i = length src - i
+abbrev decreases-loop-i : tie.decreases-loop-i
+decreases-loop-i s₀ at from src i₀ s i = length src - i
 
 length_change : (s : List ℕ) (from : ℕ) (src : List ℕ) → from + length src ≤ length s → length (change s from src) ≡ length src
 length_change s from src h = length_xor_cell s from (length src) src h refl
@@ -34,41 +34,41 @@ length_whole : (s : List ℕ) (at from : ℕ) (src : List ℕ) → at + length s
     → length (whole s at from src) ≡ length src
 length_whole s at from src h k = length_xor_cell s at (length src) (change s from src) h (length_change s from src k)
 
-loop-holds : tie.Need-loop-init invariant-loop decreases-loop
-loop-holds c = (omega arith, refl, put_none _ _)
+loop-i-init : tie.Need-loop-i-init invariant-loop-i decreases-loop-i
+loop-i-init c = (omega arith, refl, put_none _ _)
 
-add-s : tie.Need-overflow-add-s invariant-loop decreases-loop
-add-s c = omega arith
+overflow_add-s : tie.Need-overflow_add-s invariant-loop-i decreases-loop-i
+overflow_add-s c = omega arith
 
-slice-read-s : tie.Need-slice-read-s invariant-loop decreases-loop
-slice-read-s c = omega arith
+bounds-s-at : tie.Need-bounds-s-at invariant-loop-i decreases-loop-i
+bounds-s-at c = omega arith
 
-add-s-2 : tie.Need-overflow-add-s-2 invariant-loop decreases-loop
-add-s-2 c = omega arith
+overflow_add-s-in-loop-i : tie.Need-overflow_add-s-in-loop-i invariant-loop-i decreases-loop-i
+overflow_add-s-in-loop-i c = omega arith
 
-slice-read-s-2 : tie.Need-slice-read-s-2 invariant-loop decreases-loop
-slice-read-s-2 c = omega arith
+bounds-s-from : tie.Need-bounds-s-from invariant-loop-i decreases-loop-i
+bounds-s-from c = omega arith
 
-shared-slice-read-s : tie.Need-shared-slice-read-s invariant-loop decreases-loop
-shared-slice-read-s c = omega arith
+bounds-src-i : tie.Need-bounds-src-i invariant-loop-i decreases-loop-i
+bounds-src-i c = omega arith
 
-add-s-3 : tie.Need-overflow-add-s-3 invariant-loop decreases-loop
-add-s-3 c = omega arith
+overflow_add-s-in-loop-i-2 : tie.Need-overflow_add-s-in-loop-i-2 invariant-loop-i decreases-loop-i
+overflow_add-s-in-loop-i-2 c = omega arith
 
-slice-write-s : tie.Need-slice-write-s invariant-loop decreases-loop
-slice-write-s c = omega arith
+bounds-s-at-in-loop-i : tie.Need-bounds-s-at-in-loop-i invariant-loop-i decreases-loop-i
+bounds-s-at-in-loop-i c = omega arith
 
-add-i : tie.Need-overflow-add-i invariant-loop decreases-loop
-add-i c = omega arith
+overflow_add-i : tie.Need-overflow_add-i invariant-loop-i decreases-loop-i
+overflow_add-i c = omega arith
 
-loop-less : tie.Need-loop-smaller invariant-loop decreases-loop
-loop-less c = omega arith
+loop-i-smaller : tie.Need-loop-i-smaller invariant-loop-i decreases-loop-i
+loop-i-smaller c = omega arith
 
-loop-again : tie.Need-loop-preserved invariant-loop decreases-loop
-loop-again c =
+loop-i-preserved : tie.Need-loop-i-preserved invariant-loop-i decreases-loop-i
+loop-i-preserved c =
     let st = c.before.before.before.before.before in
     let a = st.args in
-    let l = c.before.before.before.before.loop in
+    let l = c.before.before.before.before.loop-i in
     let s = a.s.now in
     let src = a.src.now in
     let h : a.at + length src ≤ length s = omega arith in
@@ -84,31 +84,31 @@ loop-again c =
           ∙ byte_xor_cell s a.at (length src) (change s a.from src) l.i (omega arith) h (length_change s a.from src k)),
     )
 
-same_length : tie.Need-same-length invariant-loop decreases-loop
-same_length c = omega arith
+shape_of-s : tie.Need-shape_of-s invariant-loop-i decreases-loop-i
+shape_of-s c = omega arith
 
-returns : tie.Need-returns invariant-loop decreases-loop
+returns : tie.Need-returns invariant-loop-i decreases-loop-i
 returns c =
     let a = c.before.before.args in
     let n = length_whole a.s.now a.at a.from a.src.now (omega arith) (omega arith) in
-    put_all a.s.now a.at (whole a.s.now a.at a.from a.src.now) c.before.loop.i _ (omega arith) c.before.loop.invariant.2
+    put_all a.s.now a.at (whole a.s.now a.at a.from a.src.now) c.before.loop-i.i _ (omega arith) c.before.loop-i.invariant.2
 
 pub xor_into_spec : {M : Type 1} → statement M
 xor_into_spec =
     tie.close
     (tie.spec
-    invariant-loop
-    decreases-loop
-    loop-holds
-    add-s
-    slice-read-s
-    add-s-2
-    slice-read-s-2
-    shared-slice-read-s
-    add-s-3
-    slice-write-s
-    add-i
-    loop-less
-    loop-again
-    same_length
+    invariant-loop-i
+    decreases-loop-i
+    loop-i-init
+    overflow_add-s
+    bounds-s-at
+    overflow_add-s-in-loop-i
+    bounds-s-from
+    bounds-src-i
+    overflow_add-s-in-loop-i-2
+    bounds-s-at-in-loop-i
+    overflow_add-i
+    loop-i-smaller
+    loop-i-preserved
+    shape_of-s
     returns)

@@ -12,15 +12,15 @@ use Rattle.layout.proofs.generation_size.Tie as tie
 packets : (s : tie.Start) → s.args.shape.m * s.args.shape.k ≤ most_groups * most_symbols
 packets s = mul-le-mul s.requires.groups.1 s.requires.symbols.most
 
-mul-result : tie.Need-overflow-mul-result
-mul-result c = omega (arith, packets c.before)
+overflow_mul-result : tie.Need-overflow_mul-result
+overflow_mul-result c = omega (arith, packets c.before)
 
-mul-result-2 : tie.Need-overflow-mul-result-2
-mul-result-2 c = omega (arith, scaled _ c.before.before.requires _ _ (packets c.before.before))
+overflow_mul-result-2 : tie.Need-overflow_mul-result-2
+overflow_mul-result-2 c = omega (arith, scaled _ c.before.before.requires _ _ (packets c.before.before))
 
 returns : tie.Need-returns
 unfolding generation_size
 returns c = refl
 
 pub generation_size_spec : {M : Type 1} → statement M
-generation_size_spec = tie.close (tie.spec mul-result mul-result-2 returns)
+generation_size_spec = tie.close (tie.spec overflow_mul-result overflow_mul-result-2 returns)

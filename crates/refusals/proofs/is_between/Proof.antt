@@ -3,11 +3,11 @@ use borrow.Author.Tests.{le-leb, lt-leb}
 use Rattle.refusals.proofs.is_between.Statement.{statement}
 use Rattle.refusals.proofs.is_between.Tie as tie
 
-returns : tie.Need-returns
-returns c = rw (le-leb _ _ c.if1.true)
+returns-then-low-n : tie.Need-returns-then-low-n
+returns-then-low-n c = rw (le-leb _ _ c.if-low-n.true)
 
-returns-2 : tie.Need-returns-2
-returns-2 c = rw (lt-leb _ _ c.if1.false)
+returns-else-low-n : tie.Need-returns-else-low-n
+returns-else-low-n c = rw (lt-leb _ _ c.if-low-n.false)
 
 pub is_between_spec : {M : Type 1} → statement M
-is_between_spec = tie.close (tie.spec returns returns-2)
+is_between_spec = tie.close (tie.spec returns-then-low-n returns-else-low-n)

@@ -32,14 +32,14 @@ right_row i r t =
     let f = eqb→eq r.limit want.limit (and_right b l t) in
     λ j. record { banks = e j; limit = f j }
 
-sub-result : tie.Need-overflow-sub-result
-sub-result c = search rules
+overflow_sub-result : tie.Need-overflow_sub-result
+overflow_sub-result c = search rules
 
-mul-result : tie.Need-overflow-mul-result
-mul-result c = search rules
+offset_bounds-k : tie.Need-offset_bounds-k
+offset_bounds-k c = search rules
 
-array-copy-out-result : tie.Need-array-copy-out-result
-array-copy-out-result c = search rules
+bounds-k-k : tie.Need-bounds-k-k
+bounds-k-k c = search rules
 
 returns : tie.Need-returns
 unfolding rows
@@ -50,4 +50,4 @@ returns c =
     right_row (k - least_symbols) (get_or rows (k - least_symbols) (row 0 0)) (at_index right (row 0 0) rows tt (k - least_symbols) index) ∙ ap group_of back
 
 pub group_of_spec : {M : Type 1} → statement M
-group_of_spec = tie.close (tie.spec sub-result mul-result array-copy-out-result returns)
+group_of_spec = tie.close (tie.spec overflow_sub-result offset_bounds-k bounds-k-k returns)

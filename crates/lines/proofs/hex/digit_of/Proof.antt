@@ -4,17 +4,17 @@ use borrow.Author.Tests.{lt-ltb, le-ltb}
 use Rattle.lines.proofs.hex.digit_of.Statement.{statement}
 use Rattle.lines.proofs.hex.digit_of.Tie as tie
 
-add-result : tie.Need-overflow-add-result
-add-result c = search rules
+overflow_add-result : tie.Need-overflow_add-result
+overflow_add-result c = search rules
 
-add-result-2 : tie.Need-overflow-add-result-2
-add-result-2 c = search rules
+overflow_add-result-else-v-lt10 : tie.Need-overflow_add-result-else-v-lt10
+overflow_add-result-else-v-lt10 c = search rules
 
-returns : tie.Need-returns
-returns c = rw (lt-ltb _ _ c.if1.true)
+returns-then-v-lt10 : tie.Need-returns-then-v-lt10
+returns-then-v-lt10 c = rw (lt-ltb _ _ c.if-v-lt10.true)
 
-returns-2 : tie.Need-returns-2
-returns-2 c = rw (le-ltb _ _ c.if1.false)
+returns-else-v-lt10 : tie.Need-returns-else-v-lt10
+returns-else-v-lt10 c = rw (le-ltb _ _ c.if-v-lt10.false)
 
 pub digit_of_spec : {M : Type 1} → statement M
-digit_of_spec = tie.close (tie.spec add-result add-result-2 returns returns-2)
+digit_of_spec = tie.close (tie.spec overflow_add-result overflow_add-result-else-v-lt10 returns-then-v-lt10 returns-else-v-lt10)

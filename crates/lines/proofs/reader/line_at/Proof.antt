@@ -4,17 +4,17 @@ use Rattle.lines.proofs.Lines.{line_ended, line_last}
 use Rattle.lines.proofs.reader.line_at.Statement.{statement}
 use Rattle.lines.proofs.reader.line_at.Tie as tie
 
-line-end-requires : tie.Need-line-end-requires
-line-end-requires c κs = search rules
+line_end-end-requires : tie.Need-line_end-end-requires
+line_end-end-requires c κs = search rules
 
-add-t7 : tie.Need-overflow-add-t7
-add-t7 c = search rules
+overflow_add-result : tie.Need-overflow_add-result
+overflow_add-result c = search rules
 
-returns : tie.Need-returns
-returns c = line_ended _ _ _ c.before.line-end.ensures c.if1.true
+returns-then-end-text : tie.Need-returns-then-end-text
+returns-then-end-text c = line_ended _ _ _ c.before.line_end-end.ensures c.if-end-text.true
 
-returns-2 : tie.Need-returns-2
-returns-2 c = line_last _ _ _ c.before.line-end.ensures c.if1.false
+returns-else-end-text : tie.Need-returns-else-end-text
+returns-else-end-text c = line_last _ _ _ c.before.line_end-end.ensures c.if-end-text.false
 
 pub line_at_spec : {M : Type 1} → statement M
-line_at_spec = tie.close (tie.spec line-end-requires add-t7 returns returns-2)
+line_at_spec = tie.close (tie.spec line_end-end-requires overflow_add-result returns-then-end-text returns-else-end-text)

@@ -8,37 +8,37 @@ use Rattle.lines.proofs.Lines.{end_here, end_more, end_none}
 use Rattle.lines.proofs.reader.line_end.Statement.{statement}
 use Rattle.lines.proofs.reader.line_end.Tie as tie
 
-abbrev invariant-loop : tie.invariant-loop
-invariant-loop text at end₀ end = line_end text end ≡ line_end text at
+abbrev invariant-loop-end : tie.invariant-loop-end
+invariant-loop-end text at end₀ end = line_end text end ≡ line_end text at
 
-abbrev decreases-loop : tie.decreases-loop
-decreases-loop text at end₀ end = length text - end
+abbrev decreases-loop-end : tie.decreases-loop-end
+decreases-loop-end text at end₀ end = length text - end
 
-loop-holds : tie.Need-loop-init invariant-loop decreases-loop
-loop-holds c = refl
+loop-end-init : tie.Need-loop-end-init invariant-loop-end decreases-loop-end
+loop-end-init c = refl
 
-shared-slice-read-if1 : tie.Need-shared-slice-read-if1 invariant-loop decreases-loop
-shared-slice-read-if1 c = omega arith
+bounds-text-end : tie.Need-bounds-text-end invariant-loop-end decreases-loop-end
+bounds-text-end c = omega arith
 
-returns : tie.Need-returns invariant-loop decreases-loop
-returns c =
+returns-then-text-end-eq10 : tie.Need-returns-then-text-end-eq10 invariant-loop-end decreases-loop-end
+returns-then-text-end-eq10 c =
     let l = c.before.before.before in
-    end_here l.before.args.text.now l.loop.end (omega arith) c.if1.true ∙ l.loop.invariant
+    end_here l.before.args.text.now l.loop-end.end (omega arith) c.if-text-end-eq10.true ∙ l.loop-end.invariant
 
-add-end : tie.Need-overflow-add-end invariant-loop decreases-loop
-add-end c = omega arith
+overflow_add-end : tie.Need-overflow_add-end invariant-loop-end decreases-loop-end
+overflow_add-end c = omega arith
 
-loop-less : tie.Need-loop-smaller invariant-loop decreases-loop
-loop-less c = omega arith
+loop-end-smaller : tie.Need-loop-end-smaller invariant-loop-end decreases-loop-end
+loop-end-smaller c = omega arith
 
-loop-again : tie.Need-loop-preserved invariant-loop decreases-loop
-loop-again c =
+loop-end-preserved : tie.Need-loop-end-preserved invariant-loop-end decreases-loop-end
+loop-end-preserved c =
     let l = c.before.before.before in
-    sym (end_more l.before.args.text.now l.loop.end (omega arith) c.if1.false) ∙ l.loop.invariant
+    sym (end_more l.before.args.text.now l.loop-end.end (omega arith) c.if-text-end-eq10.false) ∙ l.loop-end.invariant
 
-returns-2 : tie.Need-returns-2 invariant-loop decreases-loop
-returns-2 c = end_none c.before.before.args.text.now c.before.loop.end (omega arith) ∙ c.before.loop.invariant
+returns : tie.Need-returns invariant-loop-end decreases-loop-end
+returns c = end_none c.before.before.args.text.now c.before.loop-end.end (omega arith) ∙ c.before.loop-end.invariant
 
 pub line_end_spec : {M : Type 1} → statement M
 line_end_spec =
-    tie.close (tie.spec invariant-loop decreases-loop loop-holds shared-slice-read-if1 returns add-end loop-less loop-again returns-2)
+    tie.close (tie.spec invariant-loop-end decreases-loop-end loop-end-init bounds-text-end returns-then-text-end-eq10 overflow_add-end loop-end-smaller loop-end-preserved returns)

@@ -1,9 +1,8 @@
 -- `bits::the_marks` carries the laws of marks.
 use Rattle.bits.proofs.Marks.{toggled_itself, toggled_other, toggled_below, none_marked, marked_none, none_more}
-use Rattle.bits.proofs.the_marks.Statement.{statement}
-use Rattle.bits.proofs.the_marks.Tie as tie
+use Rattle.bits.proofs.the_marks.Goals as goal
 
-returns : tie.Need-returns
+pub returns : goal.returns
 returns c = record {
   itself = toggled_itself;
   others = toggled_other;
@@ -11,6 +10,3 @@ returns c = record {
   none = λ set n. (none_marked set n, marked_none set n);
   count = λ set n w l e. none_more _ n w l (none_marked set n e);
 }
-
-pub the_marks_spec : {M : Type 1} → statement M
-the_marks_spec = tie.close (tie.spec returns)
