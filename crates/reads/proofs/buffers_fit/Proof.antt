@@ -16,40 +16,40 @@ abbrev OutFits : tie.Start → Bool
 OutFits c = eqb c.args.out (c.args.n * c.args.p)
 
 -- what the first two tests, and then the third, come to
-out_fits : (c : tie.Joined1) → c.if1.if2 ≡ OutFits c.before
+out_fits : (c : tie.Joined1) → c.if-out-p-eq0.if-out-p ≡ OutFits c.before
 out_fits c =
     let s = c.before in
     let a = s.args in
     ⊎_elim
-    (λ w. w.1 ∙ multiple a.p a.n a.out s.requires w.0.taken)
-    (λ w. w.1 ∙ ne_eqb _ _ w.0.left ∙ sym (no_multiple a.p a.n a.out w.0.left))
-    c.if1.branch
+    (λ w. w.1 ∙ multiple a.p a.n a.out s.requires w.0.true)
+    (λ w. w.1 ∙ ne_eqb _ _ w.0.false ∙ sym (no_multiple a.p a.n a.out w.0.false))
+    c.if-out-p-eq0.branch
 
-even : (c : tie.Joined2) → c.if2.if3 ≡ (OutFits c.before.before && eqb (c.before.before.args.schedule % 2) 0)
+even : (c : tie.Joined2) → c.if-out-p.if-schedule-eq0 ≡ (OutFits c.before.before && eqb (c.before.before.args.schedule % 2) 0)
 even c =
     let e = sym (out_fits c.before) in
-    ⊎_elim (λ w. rw (e ∙ w.0.taken) w.1) (λ w. rw (e ∙ w.0.left) (w.1 ∙ w.0.left)) c.if2.branch
+    ⊎_elim (λ w. rw (e ∙ w.0.true) w.1) (λ w. rw (e ∙ w.0.false) (w.1 ∙ w.0.false)) c.if-out-p.branch
 
-rem-if1 : tie.Need-nonzero-rem-if1
-rem-if1 c = search rules
+nonzero_rem-out : tie.Need-nonzero_rem-out
+nonzero_rem-out c = search rules
 
-div-if2 : tie.Need-nonzero-div-if2
-div-if2 c = search rules
+nonzero_div-out : tie.Need-nonzero_div-out
+nonzero_div-out c = search rules
 
-returns : tie.Need-returns
-returns c =
+returns-then-schedule-eq0 : tie.Need-returns-then-schedule-eq0
+returns-then-schedule-eq0 c =
     let s = c.before.before.before in
     let a = s.args in
-    let t = (both (OutFits s) (eqb (a.schedule % 2) 0)).0 (sym (even c.before) ∙ c.if3.true) in
+    let t = (both (OutFits s) (eqb (a.schedule % 2) 0)).0 (sym (even c.before) ∙ c.if-schedule-eq0.true) in
     rw t.0 (multiple 2 a.n a.schedule (omega arith) (eqb-true _ _ t.1))
 
-returns-2 : tie.Need-returns-2
-returns-2 c =
+returns-else-schedule-eq0 : tie.Need-returns-else-schedule-eq0
+returns-else-schedule-eq0 c =
     let s = c.before.before.before in
     let a = s.args in
-    c.if3.false
+    c.if-schedule-eq0.false
     ∙ sym (not_both (OutFits s) (eqb (a.schedule % 2) 0) (eqb a.schedule (a.n * 2))
-    (sym (even c.before) ∙ c.if3.false) (λ e. no_multiple 2 a.n a.schedule (eqb-false _ _ e)))
+    (sym (even c.before) ∙ c.if-schedule-eq0.false) (λ e. no_multiple 2 a.n a.schedule (eqb-false _ _ e)))
 
 pub buffers_fit_spec : {M : Type 1} → statement M
-buffers_fit_spec = tie.close (tie.spec rem-if1 div-if2 returns returns-2)
+buffers_fit_spec = tie.close (tie.spec nonzero_rem-out nonzero_div-out returns-then-schedule-eq0 returns-else-schedule-eq0)
