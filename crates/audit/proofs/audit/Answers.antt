@@ -26,7 +26,7 @@ audit_pairs-requires c =
     let rest = c.take_from-rest.result in
     let many = within (length c.args.bytes.now / 2) c.args.counts rest c.take_from-rest.ensures in record {
       symbols_in_range = in_range c.args.k c.args.counts (sym c.in_default.ensures);
-      bytes_len = omega (arith, many (not-false rest.fits c.if-not-rest.false), ltb-false);
+      even = omega (arith, many (not-false rest.fits c.if-not-rest.false), ltb-false);
     }
 
 pub returns-then-audit_pairs : goal.returns-then-audit_pairs
