@@ -49,15 +49,15 @@ loop-i-preserved c =
     let l = c.before.loop-i in
     let a = c.before.before.args in (
       omega arith,
-      length-set l.own_val l.i _ ∙ l.invariant.1,
-      set_more l.own_val l.i _ (λ j. get_or a.t1 (a.x * most_symbols + j) 0) (omega arith) refl l.invariant.2,
+      length-set l.own l.i _ ∙ l.invariant.1,
+      set_more l.own l.i _ (λ j. get_or a.counts (a.x * most_symbols + j) 0) (omega arith) refl l.invariant.2,
     )
 
 returns : tie.Need-returns invariant-loop-i decreases-loop-i
 returns c =
     let l = c.before.loop-i in
     let a = c.before.before.args in
-    list_is (λ j. get_or a.t1 (a.x * most_symbols + j) 0) most_symbols l.own_val l.invariant.1 (λ j h. l.invariant.2 j (omega (arith, c.loop-i-test.false)))
+    list_is (λ j. get_or a.counts (a.x * most_symbols + j) 0) most_symbols l.own l.invariant.1 (λ j h. l.invariant.2 j (omega (arith, c.loop-i-test.false)))
 
 pub counts_in_spec : {M : Type 1} → statement M
 counts_in_spec =

@@ -3,7 +3,6 @@ use mathlib.Core.Path.{sym, ◌∙◌}
 use Prim.Native.Nat.{◌<◌}
 use native.Mathlib.Omega.{arith}
 use borrow.Author.Rules.{rules}
-use borrow.Author.Tests.{not-true, not-false}
 use Rattle.bits.specs.Marks.{marked}
 use Rattle.reads.proofs.Judged.{no_row, no_group, no_symbol, row_empty, packet_fine}
 use Rattle.reads.proofs.judge_packet.Statement.{statement}
@@ -52,14 +51,14 @@ returns-then-not-is_marked c =
     let e = c.before.before in
     let a = (St (One (Two e))).args in
     row_empty a.shape (marked a.full) a.place a.row a.x a.i (row_there (One (Two e))) (group_there (Two e)) (symbol_there e)
-    (sym c.before.is_marked.ensures ∙ not-true _ c.if-not-is_marked.true)
+    (sym c.before.is_marked.ensures ∙ c.if-not-is_marked.true)
 
 returns : tie.Need-returns
 returns c =
     let e = c.before.before in
     let a = (St (One (Two e))).args in
     packet_fine a.shape (marked a.full) a.place a.row a.x a.i (row_there (One (Two e))) (group_there (Two e)) (symbol_there e)
-    (sym c.before.is_marked.ensures ∙ not-false _ c.if-not-is_marked.false)
+    (sym c.before.is_marked.ensures ∙ c.if-not-is_marked.false)
 
 pub judge_packet_spec : {M : Type 1} → statement M
 judge_packet_spec = tie.close (tie.spec returns-then-shape-row returns-then-shape-x returns-then-shape-i is_marked-requires returns-then-not-is_marked returns)
