@@ -14,56 +14,56 @@ use Rattle.memory.proofs.judge_release_set.Statement.{statement}
 use Rattle.memory.proofs.judge_release_set.Tie as tie
 
 -- past the first test
-whole : (c : tie.Else1) → sound c.before.before.args.state ≡ true
-whole c = sym c.before.is-sound.ensures ∙ not-false _ c.if1.left
+whole : (c : tie.Else-not-is_sound) → sound c.before.before.args.state ≡ true
+whole c = sym c.before.is_sound.ensures ∙ not-false _ c.if-not-is_sound.false
 
 -- the rows below G, as a set and as a test
-past : (c : tie.After-judge-rows) → let a = c.before.before.before.before.args in
-    c.judge-rows.result ≡ each_row 7 a.set (λ r. ltb r a.state.shape.g)
+past : (c : tie.After-judge_rows-verdict) → let a = c.before.before.before.before.args in
+    c.judge_rows-verdict.result ≡ each_row 7 a.set (λ r. ltb r a.state.shape.g)
 past c =
     let a = c.before.before.before.before.args in
-    c.judge-rows.ensures ∙ rows_alike 7 a.set _ _ (λ r l. rw c.before.below.ensures (marked_set (λ i. ltb i a.state.shape.g) most_rows r l))
+    c.judge_rows-verdict.ensures ∙ rows_alike 7 a.set _ _ (λ r l. rw c.before.below.ensures (marked_set (λ i. ltb i a.state.shape.g) most_rows r l))
 
-is-sound-requires : tie.Need-is-sound-requires
-is-sound-requires c κs = search rules
+is_sound-requires : tie.Need-is_sound-requires
+is_sound-requires c κs = search rules
 
-returns : tie.Need-returns
+returns-then-not-is_sound : tie.Need-returns-then-not-is_sound
 unfolding release_set_refusal
-returns c = rw (sym c.before.is-sound.ensures ∙ not-true _ c.if1.taken)
+returns-then-not-is_sound c = rw (sym c.before.is_sound.ensures ∙ not-true _ c.if-not-is_sound.true)
 
 below-requires : tie.Need-below-requires
 below-requires c κs = (sound_words _ (whole c)).ranges.rows
 
-judge-rows-requires : tie.Need-judge-rows-requires
-judge-rows-requires c κs = search rules
+judge_rows-verdict-requires : tie.Need-judge_rows-verdict-requires
+judge_rows-verdict-requires c κs = search rules
 
-enum-known-verdict : tie.Need-enum-known-verdict
-enum-known-verdict c = search rules
+enum_known-verdict : tie.Need-enum_known-verdict
+enum_known-verdict c = search rules
 
-returns-2 : tie.Need-returns-2
+returns-in-Refused : tie.Need-returns-in-Refused
 unfolding release_set_refusal
-returns-2 c = let j = c.before.before.before in rw (whole j.before.before, sym (past j) ∙ c.before.verdict.given.1)
+returns-in-Refused c = let j = c.before.before.before in rw (whole j.before.before, sym (past j) ∙ c.before.verdict-1.given.1)
 
-enum_told : tie.Need-enum-told
-enum_told c = search rules
+enum_told-1 : tie.Need-enum_told-1
+enum_told-1 c = search rules
 
-judge-rows-requires-2 : tie.Need-judge-rows-requires-2
-judge-rows-requires-2 c κs = search rules
+judge_rows-requires : tie.Need-judge_rows-requires
+judge_rows-requires c κs = search rules
 
-returns-3 : tie.Need-returns-3
+returns : tie.Need-returns
 unfolding release_set_refusal
-returns-3 c = let j = c.before.before.before in rw (whole j.before.before, sym (past j) ∙ c.before.enum_told.given.1) c.judge-rows2.ensures
+returns c = let j = c.before.before.before in rw (whole j.before.before, sym (past j) ∙ c.before.enum_told-1.given.1) c.judge_rows.ensures
 
 pub judge_release_set_spec : {M : Type 1} → statement M
 judge_release_set_spec =
     tie.close
     (tie.spec
-    is-sound-requires
-    returns
+    is_sound-requires
+    returns-then-not-is_sound
     below-requires
-    judge-rows-requires
-    enum-known-verdict
-    returns-2
-    enum_told
-    judge-rows-requires-2
-    returns-3)
+    judge_rows-verdict-requires
+    enum_known-verdict
+    returns-in-Refused
+    enum_told-1
+    judge_rows-requires
+    returns)

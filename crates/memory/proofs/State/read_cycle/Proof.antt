@@ -2,7 +2,7 @@
 use mathlib.Core.Path.{◌≡◌, refl, sym, ◌∙◌}
 use borrow.Author.Rules.{rules}
 use lib.ListN.{length}
-use Rattle.refusals.specs.declared.Verdict.TheVariants.{Accepted}
+use Rattle.refusals.specs.declared.verdict-1.TheVariants.{Accepted}
 use Rattle.memory.specs.Operations.{store_refusal, cycle_refusal}
 use Rattle.memory.proofs.States.{sound_words}
 use Rattle.memory.proofs.Accepted.{store_facts}
@@ -11,100 +11,100 @@ use Rattle.memory.proofs.State.read_cycle.Statement.{statement}
 use Rattle.memory.proofs.State.read_cycle.Tie as tie
 
 -- the function's entry, from past 5 and 6
-abbrev St : tie.After-enum-told → tie.Start
+abbrev St : tie.In_default → tie.Start
 St c = c.before.before.before.before.before.before.before
 
-lent : (c : tie.After-enum-told) → store_refusal (St c).args.self (length (St c).args.store.now) ≡ Accepted
-lent c = sym c.before.before.judge-store.ensures ∙ c.enum_told.given.1
+lent : (c : tie.In_default) → store_refusal (St c).args.self (length (St c).args.store.now) ≡ Accepted
+lent c = sym c.before.before.judge_store-lent.ensures ∙ c.enum_told-1.given.1
 
 -- then the verdict is that on the list and the buffers
-verdict : (c : tie.After-run)
+verdict : (c : tie.After-run-verdict)
     → let a = (St c.before.before.before).args in
-    cycle_refusal a.self (length a.store.now) a.reads.now (length a.out.now) (length a.schedule.now) ≡ c.run.result
+    cycle_refusal a.self (length a.store.now) a.reads.now (length a.out-1.now) (length a.schedule-1.now) ≡ c.run-verdict.result
 verdict c =
     let d = c.before.before.before in
     let a = (St d).args in
-    by_list a.self a.store.now a.reads.now a.out.now a.schedule.now (lent d) ∙ sym c.run.ensures.0
+    by_list a.self a.store.now a.reads.now a.out-1.now a.schedule-1.now (lent d) ∙ sym c.run-verdict.ensures.0
 
-judge-store-requires : tie.Need-judge-store-requires
-judge-store-requires c κs = search rules
+judge_store-lent-requires : tie.Need-judge_store-lent-requires
+judge_store-lent-requires c κs = search rules
 
-enum-known-lent : tie.Need-enum-known-lent
-enum-known-lent c = search rules
+enum_known-lent : tie.Need-enum_known-lent
+enum_known-lent c = search rules
 
 refuse-requires : tie.Need-refuse-requires
 refuse-requires c κs = search rules
 
-returns : tie.Need-returns
-returns c =
+returns-in-Refused : tie.Need-returns-in-Refused
+returns-in-Refused c =
     let j = c.before.before.before.before in
     let a = j.before.before.before.before.before.args in
-    let e = sym j.judge-store.ensures ∙ c.before.before.lent.given.1 in
+    let e = sym j.judge_store-lent.ensures ∙ c.before.before.lent-1.given.1 in
     rw c.refuse.ensures
-    (promised a.self a.store.now a.reads.now a.out.now a.schedule.now _ _
-    (by_store a.self a.store.now a.reads.now a.out.now a.schedule.now _ _ e) refl _ _ refl refl)
+    (promised a.self a.store.now a.reads.now a.out-1.now a.schedule-1.now _ _
+    (by_store a.self a.store.now a.reads.now a.out-1.now a.schedule-1.now _ _ e) refl _ _ refl refl)
 
-enum_told : tie.Need-enum-told
-enum_told c = search rules
+enum_told-1 : tie.Need-enum_told-1
+enum_told-1 c = search rules
 
-run-requires : tie.Need-run-requires
-run-requires c κs =
+run-verdict-requires : tie.Need-run-verdict-requires
+run-verdict-requires c κs =
     let d = c.before.before in
     let f = store_facts (St d).args.self (length (St d).args.store.now) (lent d) in
     ((sound_words _ f.0).ranges, f.1)
 
-enum-known-verdict : tie.Need-enum-known-verdict
-enum-known-verdict c = search rules
+enum_known-verdict : tie.Need-enum_known-verdict
+enum_known-verdict c = search rules
 
-refuse-requires-2 : tie.Need-refuse-requires-2
-refuse-requires-2 c κs = search rules
+refuse-requires-in-Refused-verdict : tie.Need-refuse-requires-in-Refused-verdict
+refuse-requires-in-Refused-verdict c κs = search rules
 
-same_length : tie.Need-same-length
-same_length c = search rules
+shape_of-out-in-Refused-verdict : tie.Need-shape_of-out-in-Refused-verdict
+shape_of-out-in-Refused-verdict c = search rules
 
-same-length-2 : tie.Need-same-length-2
-same-length-2 c = search rules
+shape_of-schedule-in-Refused-verdict : tie.Need-shape_of-schedule-in-Refused-verdict
+shape_of-schedule-in-Refused-verdict c = search rules
 
-returns-2 : tie.Need-returns-2
-returns-2 c =
+returns-in-Refused-verdict : tie.Need-returns-in-Refused-verdict
+returns-in-Refused-verdict c =
     let r = c.before.before.before.before.before.before.before.before in
     let a = (St r.before.before.before).args in
-    rw c.refuse2.ensures
-    (promised a.self a.store.now a.reads.now a.out.now a.schedule.now r.run.result _ (verdict r)
-    c.before.before.verdict.given.1 _ _ r.run.ensures.1.0 r.run.ensures.1.1)
+    rw c.refuse-in-Refused-verdict.ensures
+    (promised a.self a.store.now a.reads.now a.out-1.now a.schedule-1.now r.run-verdict.result _ (verdict r)
+    c.before.before.verdict-1.given.1 _ _ r.run-verdict.ensures.1.0 r.run-verdict.ensures.1.1)
 
-enum-told-2 : tie.Need-enum-told-2
-enum-told-2 c = search rules
+enum_told-in_default-verdict : tie.Need-enum_told-in_default-verdict
+enum_told-in_default-verdict c = search rules
 
-same-length-3 : tie.Need-same-length-3
-same-length-3 c = search rules
+shape_of-out : tie.Need-shape_of-out
+shape_of-out c = search rules
 
-same-length-4 : tie.Need-same-length-4
-same-length-4 c = search rules
+shape_of-schedule : tie.Need-shape_of-schedule
+shape_of-schedule c = search rules
 
-returns-3 : tie.Need-returns-3
-returns-3 c =
+returns : tie.Need-returns
+returns c =
     let r = c.before.before.before.before.before.before in
     let a = (St r.before.before.before).args in
-    promised a.self a.store.now a.reads.now a.out.now a.schedule.now r.run.result _ (verdict r)
-    c.enum-told2.given.1 _ _ r.run.ensures.1.0 r.run.ensures.1.1
+    promised a.self a.store.now a.reads.now a.out-1.now a.schedule-1.now r.run-verdict.result _ (verdict r)
+    c.enum_told-in_default-verdict-1.given.1 _ _ r.run-verdict.ensures.1.0 r.run-verdict.ensures.1.1
 
 pub read_cycle_spec : {M : Type 1} → statement M
 read_cycle_spec =
     tie.close
     (tie.spec
-    judge-store-requires
-    enum-known-lent
+    judge_store-lent-requires
+    enum_known-lent
     refuse-requires
-    returns
-    enum_told
-    run-requires
-    enum-known-verdict
-    refuse-requires-2
-    same_length
-    same-length-2
-    returns-2
-    enum-told-2
-    same-length-3
-    same-length-4
-    returns-3)
+    returns-in-Refused
+    enum_told-1
+    run-verdict-requires
+    enum_known-verdict
+    refuse-requires-in-Refused-verdict
+    shape_of-out-in-Refused-verdict
+    shape_of-schedule-in-Refused-verdict
+    returns-in-Refused-verdict
+    enum_told-in_default-verdict
+    shape_of-out
+    shape_of-schedule
+    returns)
