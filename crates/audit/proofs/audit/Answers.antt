@@ -1,5 +1,5 @@
 -- `audit::audit` meets its contract: each answer from what the functions that it calls say.
-use Rattle.std.proofs.Common.{◌≡◌, ℕ, sym, length, ◌/◌, ◌<◌, Bool, true, false, arith}
+use Rattle.std.proofs.Common.{ℕ, sym, length, ◌/◌, true, false, arith}
 use mathlib.Core.Logic.{⊎_elim}
 use borrow.Author.Tests.{not-true, not-false, ltb-true, ltb-false}
 use Rattle.audit.proofs.Answer.{refused, in_range, odd, not_just, even, within, past}

@@ -1,16 +1,15 @@
 -- `cycle::plan_groups` meets its contract: the groups before x are not refused, and their plans are put.
-use Rattle.std.proofs.Common.{◌≡◌, ℕ, refl, sym, ap, ◌∙◌, arith, add-one, length, ◌*◌}
+use Rattle.std.proofs.Common.{◌≡◌, refl, sym, ap, ◌∙◌, arith, add-one, ◌*◌}
 use Rattle.refusals.specs.declared.Verdict.TheVariants.{Accepted}
 use Rattle.refusals.specs.Verdict.{first_refusal}
 use Rattle.refusals.proofs.Verdicts.{accepted_then, stops}
 use Rattle.cells.specs.Cell.{put}
 use Rattle.simplex.specs.Shape.{most_pairs}
-use Rattle.layout.specs.Shape.{most_groups}
 use Rattle.plan.specs.declared.Plan.{Plan}
 use Rattle.plan.specs.Planned.{plan_answer}
 use Rattle.reads.specs.Refusals.{group_refusal}
 use Rattle.reads.proofs.Grids.{grid_counts}
-use Rattle.cycle.proofs.Groups.{columns, columns_none, columns_size, columns_more}
+use Rattle.cycle.proofs.Groups.{columns, columns_none, columns_more}
 use Rattle.cycle.proofs.Groups.{group_refused, group_accepted, group_plan, counts_small, plans_for}
 use Rattle.cycle.proofs.plan_groups.Goals as goal
 
@@ -60,6 +59,6 @@ returns-clause-plans c =
     let fine : first_refusal (group_refusal a.shape a.reads.now) a.shape.m ≡ Accepted =
     ap (first_refusal (group_refusal a.shape a.reads.now)) (sym all) ∙ l.invariant.1 in
     λ _. plans_for a.shape a.reads.now c.requires.0 c.requires.1 fine c.count_reads-counts.result c.count_reads-counts.ensures _
-        (l.invariant.2 ∙ ap (columns a.shape a.reads.now (λ p. p.a)) all)
-        (l.invariant.3 ∙ ap (columns a.shape a.reads.now (λ p. p.b)) all)
-        c.starts_of.ensures
+    (l.invariant.2 ∙ ap (columns a.shape a.reads.now (λ p. p.a)) all)
+    (l.invariant.3 ∙ ap (columns a.shape a.reads.now (λ p. p.b)) all)
+    c.starts_of.ensures

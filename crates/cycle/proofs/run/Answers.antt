@@ -1,6 +1,6 @@
 -- `cycle::run` meets its contract: each check in its order; a list that passes all of them is served.
-use Rattle.std.proofs.Common.{◌≡◌, refl, sym, ◌∙◌, true, false, length}
-use borrow.Author.Tests.{eq-eqb, ne_eqb, eqb-true, not-true, not-false}
+use Rattle.std.proofs.Common.{refl, sym, ◌∙◌, length}
+use borrow.Author.Tests.{eq-eqb, ne_eqb, eqb-true}
 use Rattle.bits.specs.Marks.{marked}
 use Rattle.refusals.proofs.Verdicts.{both}
 use Rattle.reads.proofs.Judged.{not_whole, by_read, by_group, by_buffers}

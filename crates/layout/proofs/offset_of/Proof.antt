@@ -4,7 +4,7 @@ use native.Mathlib.Omega.{arith}
 use borrow.Author.Rules.{rules}
 use Rattle.simplex.specs.Shape.{most_symbols, banks_of}
 use Rattle.simplex.proofs.Tables.{banks_of_lem}
-use Rattle.layout.specs.Shape.{most_groups, most_rows, banks, offset}
+use Rattle.layout.specs.Shape.{most_groups, most_rows, offset}
 use Rattle.layout.proofs.Ranges.{few_banks, all_banks_lem, scaled}
 use Rattle.layout.proofs.offset_of.Statement.{statement}
 use Rattle.layout.proofs.offset_of.Tie as tie

@@ -3,7 +3,7 @@ use Prim.Native.Nat.{◌*◌, ◌≤◌}
 use native.Mathlib.Omega.{arith}
 use Rattle.simplex.specs.Shape.{most_symbols, banks_of}
 use Rattle.simplex.proofs.Tables.{banks_of_lem}
-use Rattle.layout.specs.Shape.{most_groups, banks, store_size}
+use Rattle.layout.specs.Shape.{most_groups, store_size}
 use Rattle.layout.proofs.Ranges.{all_banks_lem, scaled}
 use Rattle.layout.proofs.store_size.Statement.{statement}
 use Rattle.layout.proofs.store_size.Tie as tie

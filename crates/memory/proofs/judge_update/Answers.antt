@@ -1,5 +1,5 @@
 -- `memory::judge_update` meets its contract: each test in its order.
-use Rattle.std.proofs.Common.{sym, ◌∙◌}
+use Rattle.std.proofs.Common.{sym}
 use borrow.Author.Tests.{eq-eqb, ne_eqb}
 use Rattle.memory.specs.State.{is_full}
 use Rattle.memory.proofs.States.{sound_words}

@@ -1,5 +1,5 @@
 -- `steps::do_frame` meets its contract: each kind of frame has a function of its own.
-use Rattle.std.proofs.Common.{◌≡◌, ℕ, List, sym, ◌∙◌}
+use Rattle.std.proofs.Common.{◌≡◌, ℕ, List, sym}
 use borrow.Author.Rules.{part_to_end}
 use Rattle.frames.specs.declared.Frame.{Frame}
 use Rattle.frames.specs.Frames.{frame_of}

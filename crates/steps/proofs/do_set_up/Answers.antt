@@ -1,5 +1,5 @@
 -- `steps::do_set_up` meets its contract: by its verdict.
-use Rattle.std.proofs.Common.{◌≡◌, refl, sym, arith}
+use Rattle.std.proofs.Common.{refl, sym, arith}
 use Rattle.steps.proofs.Fitting.{set_up_near, near_place, set_up_range, few_in_all, small_limit}
 use Rattle.steps.proofs.Done.{same_verdict}
 use Rattle.steps.proofs.do_set_up.Goals as goal

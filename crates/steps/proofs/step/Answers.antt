@@ -1,5 +1,5 @@
 -- `steps::step` meets its contract: 17, or the frame of the bytes that the line stands for.
-use Rattle.std.proofs.Common.{◌≡◌, refl, sym, ap, ◌∙◌, length, arith}
+use Rattle.std.proofs.Common.{refl, sym, ap, ◌∙◌, length, arith}
 use Rattle.cells.proofs.Cells.{length_put}
 use Rattle.lines.proofs.Digits.{length_bytes}
 use Rattle.frames.proofs.Framed.{framed, decoded}
