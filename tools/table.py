@@ -155,11 +155,8 @@ def main():
         arms += f"        {'_' if at == starts[-1] else n} => BLOCK_{n},\n"
     (crate / "src" / "rows.rt").write_text(
         "// The stored rows and their trie. Written by tools/table.py; nothing rests on how they were found.\n"
-        "ghost use mathlib.Core.Path.{_≡_};\n"
-        "ghost use mathlib.Core.List.{[]};\n"
-        "ghost use Prim.Native.Nat.{_<_};\n"
-        "ghost use lib.ListN.{length, getD};\n"
-        "ghost use Rattle·table·specs.specs.Rows.{blocks};\n\n"
+        "ghost use Rattle.std.specs.Prelude.{◌≡◌, [], ◌<◌, length, get_or};\n"
+        "ghost use Rattle.table.specs.Rows.{blocks};\n\n"
         "// The rows of a block.\n"
         f"pub const BLOCK: usize = {BLOCK};\n\n"
         "// Where the row of a request is: by the walk of specs/Table.antt.\n"
@@ -167,13 +164,12 @@ def main():
         "// The rows, in blocks: each with the K and the counts that it is for.\n" + blocks +
         "// Rows n * BLOCK and on. A match, because a constant array would be stored anew at each use.\n"
         "pub fn block(n: usize) -> [u64; BLOCK]\n"
-        "    requires { ⌜ n < length blocks ⌝ }\n"
-        "    ensures { λ r. ⌜ r ≡ getD blocks n [] ⌝ }\n"
+        "    requires { n < length blocks }\n"
+        "    ensures { result ≡ get_or blocks n [] }\n"
         "{\n    match n {\n" + arms + "    }\n}\n", encoding="utf-8")
     (crate / "specs" / "Rows.antt").write_text(
         "-- The stored rows and their trie. Written by tools/table.py; nothing rests on how they were found.\n"
-        "use mathlib.Core.List.{List, [], _∷_}\n"
-        "use Prim.Native.Nat.{ℕ}\n\n"
+        "use Rattle.std.specs.Prelude.{List, [], ◌∷◌, ℕ}\n\n"
         "-- The rows of a block.\n"
         f"abbrev pub block_rows : ℕ\nblock_rows = {BLOCK}\n\n"
         "-- The rows, in blocks.\n"

@@ -115,7 +115,7 @@ fn toggle_bank(set: u64, b: usize) -> u64
 // first pair and of the rest: bank b is marked in `used` where a pair after the one at hand opens it.
 fn audit_pairs(k: usize, counts: [usize; MOST_SYMBOLS], bytes: &[u8]) -> bool
     requires symbols_in_range { SymbolsInRange k }
-    requires bytes_len { length bytes.now ≡ total counts * 2 }
+    requires even { length bytes.now ≡ total counts * 2 }
     ensures { result ≡ is_plan k counts (pairs_of bytes.now) }
 {
     let mut used: u64 = 0;

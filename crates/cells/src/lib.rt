@@ -31,8 +31,8 @@ pub fn copy_into(s: &mut [u8], at: usize, src: &[u8])
 // The cell of `s` at `at` becomes the cell at `from` XOR `src`. The cell at `from` lies before it, or
 // starts no earlier than it: so no byte is read after it was set.
 pub fn xor_from(s: &mut [u8], at: usize, from: usize, src: &[u8])
-    requires src_in_bounds { (at + length src.now ≤ length s.old) × (from + length src.now ≤ length s.old) }
-    requires fact { (from + length src.now ≤ at) ⊎ (at ≤ from) }
+    requires within { (at + length src.now ≤ length s.old) × (from + length src.now ≤ length s.old) }
+    requires apart { (from + length src.now ≤ at) ⊎ (at ≤ from) }
     ensures { s.new ≡ put s.old at (xor_bytes (cell s.old from (length src.now)) src.now) }
 {
     let mut i = 0;

@@ -115,7 +115,7 @@ fn read_packet(
     b: usize,
 )
     requires in_range { InRange shape × (length store.now ≡ store_size shape) × (at + shape.p ≤ length out.old) }
-    requires x_lt_m { (x < shape.m) × (row < shape.g) × (1 ≤ a) × (a ≤ banks shape) × (b ≤ banks shape) }
+    requires banks_there { (x < shape.m) × (row < shape.g) × (1 ≤ a) × (a ≤ banks shape) × (b ≤ banks shape) }
     ensures { out.new ≡ put out.old at (xor_of_cells shape store.now x row (opens a b)) }
 {
     let from = layout::offset_of(shape, x, a, row);

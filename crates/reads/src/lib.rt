@@ -1,4 +1,6 @@
 // A list of reads: judged read by read, and counted by group and symbol.
+#![tactic(auto)]
+
 ghost use Rattle.std.specs.Prelude.{◌≡◌, ◌&&◌, ◌*◌, ◌≤◌, ◌<◌, eqb};
 ghost use Rattle.bits.specs.Marks.{marked};
 ghost use Rattle.refusals.specs.Verdict.{first_refusal};

@@ -70,8 +70,8 @@ pub fn the_limit()
 // Adds a symbol to a group that has banks 1 to `t`, bank 1 at `at`, each `step` after the one before: its packet becomes bank t + 1, at `to`,
 // and bank b XOR the packet becomes bank t + 1 + b, for b from 1 to t. Gives the index after the last bank.
 fn add_symbol(store: &mut [u8], at: usize, to: usize, step: usize, t: usize, packet: &[u8]) -> usize
-    requires to_value { to ≡ spaced at step (suc t) }
-    requires packet_len_bound { (length packet.now ≤ step) × (step ≤ length store.old) × (to + t * step + length packet.now ≤ length store.old) }
+    requires next_place { to ≡ spaced at step (suc t) }
+    requires room { (length packet.now ≤ step) × (step ≤ length store.old) × (to + t * step + length packet.now ≤ length store.old) }
     ensures { (result ≡ to + step + t * step) × (store.new ≡ doubled packet.now (spaced at step) t t (put store.old to packet.now)) }
 {
     cells::copy_into(store, to, packet);

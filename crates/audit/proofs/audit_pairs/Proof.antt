@@ -4,7 +4,6 @@ use mathlib.Core.Bool.{true, false}
 use mathlib.Core.Logic.{⊎_elim}
 use Prim.Native.Nat.{ℕ, ◌+◌, ◌-◌, ◌*◌, ◌/◌, ◌≤◌, ◌<◌}
 use native.Mathlib.Omega.{arith}
-use borrow.Author.Tests.{not-true, not-false}
 use lib.ListN.{length}
 use Rattle.bits.specs.Marks.{marked}
 use Rattle.simplex.specs.Limit.{total}
@@ -47,7 +46,7 @@ turn c = record {
 
 -- past the first test: the pair serves its symbol, so its banks are two, and below 64
 served : (c : tie.Else-not-serves_symbol invariant-loop-n decreases-loop-n) → serves (St c.before.before).args.k c.before.before.symbol_of.result (P c.before.before) ≡ true
-served c = sym c.before.serves_symbol.ensures ∙ not-false c.before.serves_symbol.result c.if-not-serves_symbol.false
+served c = sym c.before.serves_symbol.ensures ∙ c.if-not-serves_symbol.false
 
 below : (c : tie.Else-not-serves_symbol invariant-loop-n decreases-loop-n) → ((P c.before.before).a < 64) × ((P c.before.before).b < (P c.before.before).a)
 below c = banks_below _ _ _ (St c.before.before).requires.0 (served c)
@@ -58,7 +57,7 @@ module _ (c : tie.Else-is_marked-2 invariant-loop-n decreases-loop-n) where
   Asked = c.before.before.before.before.before.before
 
   first_unmet : marked (Loop Asked).loop-n.used (P Asked).a ≡ false
-  first_unmet = sym c.before.before.before.is_marked.ensures ∙ c.before.before.then-is_marked.false
+  first_unmet = sym c.before.before.before.is_marked.ensures ∙ c.before.before.if-is_marked.false
 
   second_unmet : marked (Loop Asked).loop-n.used (P Asked).b ≡ false
   second_unmet = sym c.before.is_marked-else-is_marked.ensures ∙ c.if-is_marked-2.false
@@ -101,7 +100,7 @@ serves_symbol-requires c κs = ((St c).requires.0, c.symbol_of.ensures.1)
 
 returns-then-not-serves_symbol : tie.Need-returns-then-not-serves_symbol invariant-loop-n decreases-loop-n
 returns-then-not-serves_symbol c =
-    sym (not_served (turn c.before.before) (sym c.before.serves_symbol.ensures ∙ not-true c.before.serves_symbol.result c.if-not-serves_symbol.true))
+    sym (not_served (turn c.before.before) (sym c.before.serves_symbol.ensures ∙ c.if-not-serves_symbol.true))
 
 is_marked-requires : tie.Need-is_marked-requires invariant-loop-n decreases-loop-n
 is_marked-requires c κs = (below c).0
@@ -113,8 +112,8 @@ returns-then-is_marked : tie.Need-returns-then-is_marked invariant-loop-n decrea
 returns-then-is_marked c =
     let e = c.before.before in
     let t = turn e.before.before in
-    ⊎_elim (λ w. sym (first_met t (served e) (sym c.before.is_marked.ensures ∙ w.true)))
-    (λ w. sym (second_met t (served e) (sym w.1.ensures ∙ w.2.true))) c.then-is_marked.branch
+    ⊎_elim (λ w. sym (first_met t (served e) (sym c.before.is_marked.ensures ∙ w.if-is_marked.true)))
+    (λ w. sym (second_met t (served e) (sym w.is_marked-else-is_marked.ensures ∙ w.if-is_marked-2.true))) c.then-is_marked.branch-raw
 
 toggle_bank-requires : tie.Need-toggle_bank-requires invariant-loop-n decreases-loop-n
 toggle_bank-requires c κs = omega (arith, below c.before.before.before.before)

@@ -4,7 +4,7 @@ use mathlib.Core.Bool.{true}
 use Prim.Native.Nat.{◌-◌, ◌≤◌, ◌<◌}
 use native.Mathlib.Omega.{arith}
 use borrow.Author.Rules.{rules}
-use borrow.Author.Tests.{not-true, not-false, eq-eqb, ne_eqb}
+use borrow.Author.Tests.{eq-eqb, ne_eqb}
 use lib.ListN.{length, drop, drop_of_length-le}
 use Rattle.refusals.specs.Verdict.{between, check}
 use Rattle.refusals.proofs.Verdicts.{between_words}
@@ -28,12 +28,12 @@ k_test : (c : tie.After-is_between invariant-loop-i decreases-loop-i) → c.is_b
 k_test c = c.is_between.ensures
 
 returns-then-not-is_between : tie.Need-returns-then-not-is_between invariant-loop-i decreases-loop-i
-returns-then-not-is_between c = rw (sym (k_test c.before) ∙ not-true _ c.if-not-is_between.true)
+returns-then-not-is_between c = rw (sym (k_test c.before) ∙ c.if-not-is_between.true)
 
 loop-i-init : tie.Need-loop-i-init invariant-loop-i decreases-loop-i
 loop-i-init c =
     let k = c.before.before.args.k in
-    let e : between least_symbols most_symbols k ≡ true = sym (k_test c.before) ∙ not-false _ c.if-not-is_between.false in
+    let e : between least_symbols most_symbols k ≡ true = sym (k_test c.before) ∙ c.if-not-is_between.false in
     ((between_words least_symbols most_symbols k e).1, rw e)
 
 offset_bounds-counts-i : tie.Need-offset_bounds-counts-i invariant-loop-i decreases-loop-i
@@ -45,7 +45,7 @@ bounds-counts-i c = search rules
 returns-then-counts-i-ne0 : tie.Need-returns-then-counts-i-ne0 invariant-loop-i decreases-loop-i
 returns-then-counts-i-ne0 c =
     let i = c.before.before.loop-i.i in
-    let counts = c.before.before.before.before.before.args.t2 in
+    let counts = c.before.before.before.before.before.args.counts in
     let n : length counts ≡ most_symbols = search rules in
     let h : i < length counts = omega arith in
     rw (c.before.before.loop-i.invariant.1, zero_at counts i h, ne_eqb _ _ c.if-counts-i-ne0.true)
@@ -59,14 +59,14 @@ loop-i-smaller c = omega arith
 loop-i-preserved : tie.Need-loop-i-preserved invariant-loop-i decreases-loop-i
 loop-i-preserved c =
     let i = c.before.before.loop-i.i in
-    let counts = c.before.before.before.before.before.args.t2 in
+    let counts = c.before.before.before.before.before.args.counts in
     let n : length counts ≡ most_symbols = search rules in
     let h : i < length counts = omega arith in
     (omega arith, rw (c.before.before.loop-i.invariant.1, zero_at counts i h, eq-eqb _ _ c.if-counts-i-ne0.false))
 
 returns : tie.Need-returns invariant-loop-i decreases-loop-i
 returns c =
-    let counts = c.before.before.before.before.args.t2 in
+    let counts = c.before.before.before.before.args.counts in
     let n : length counts ≡ most_symbols = search rules in
     let h : length counts ≤ c.before.loop-i.i = omega arith in
     rw (c.before.loop-i.invariant.1, drop_of_length-le counts h)

@@ -18,7 +18,7 @@ returns-then-a-lt1 c =
     let n = banks_of_lem c.before.before.args.k c.before.group_of-group.ensures in
     not_serving a.k a.i (record { a = a.a; b = a.b })
     (λ s. ⊎_elim (λ w. omega arith) (⊎_elim (λ w. omega (arith, ltb-true)) (⊎_elim (λ w. omega (arith, ltb-true)) (λ w. omega (arith, leb-true))))
-    c.then-a-lt1.branch)
+    c.then-a-lt1.either)
 
 overflow_shl-result : tie.Need-overflow_shl-result
 overflow_shl-result c = search rules

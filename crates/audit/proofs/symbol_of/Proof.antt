@@ -29,7 +29,7 @@ bounds-counts-i c = search rules
 returns-then-ahead-c : tie.Need-returns-then-ahead-c invariant-loop-i decreases-loop-i
 returns-then-ahead-c c =
     let l = c.before.before.loop-i in
-    let counts = c.before.before.before.args.t1 in
+    let counts = c.before.before.before.args.counts in
     let n : length counts ≡ most_symbols = search rules in
     (sym (l.invariant.2 ∙ read_here counts l.i (omega arith) l.ahead c.if-ahead-c.true), omega arith)
 
@@ -42,7 +42,7 @@ loop-i-smaller c = omega arith
 loop-i-preserved : tie.Need-loop-i-preserved invariant-loop-i decreases-loop-i
 loop-i-preserved c =
     let l = c.before.before.loop-i in
-    let counts = c.before.before.before.args.t1 in
+    let counts = c.before.before.before.args.counts in
     let n : length counts ≡ most_symbols = search rules in
     let h : l.i < length counts = omega arith in
     let t = total_at counts l.i h in
@@ -50,7 +50,7 @@ loop-i-preserved c =
 
 returns : tie.Need-returns invariant-loop-i decreases-loop-i
 returns c =
-    let counts = c.before.before.args.t1 in
+    let counts = c.before.before.args.counts in
     let n : length counts ≡ most_symbols = search rules in
     let t = total_none counts c.before.loop-i.i (omega arith) in
     absurd (omega arith)

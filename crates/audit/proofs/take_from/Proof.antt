@@ -28,9 +28,9 @@ bounds-counts-i c = search rules
 returns-then-left-c : tie.Need-returns-then-left-c invariant-loop-i decreases-loop-i
 returns-then-left-c c =
     let st = c.before.before.before in
-    let n : length st.args.t2 ≡ most_symbols = search rules in
-    let e = total_at st.args.t2 c.before.before.loop-i.i (omega arith) in
-    rest_none st.args.room st.args.t2 (omega arith)
+    let n : length st.args.counts ≡ most_symbols = search rules in
+    let e = total_at st.args.counts c.before.before.loop-i.i (omega arith) in
+    rest_none st.args.room st.args.counts (omega arith)
 
 overflow_add-i : tie.Need-overflow_add-i invariant-loop-i decreases-loop-i
 overflow_add-i c = search rules
@@ -41,15 +41,15 @@ loop-i-smaller c = omega arith
 loop-i-preserved : tie.Need-loop-i-preserved invariant-loop-i decreases-loop-i
 loop-i-preserved c =
     let st = c.before.before.before in
-    let n : length st.args.t2 ≡ most_symbols = search rules in
-    omega (arith, total_at st.args.t2 c.before.before.loop-i.i (omega arith))
+    let n : length st.args.counts ≡ most_symbols = search rules in
+    omega (arith, total_at st.args.counts c.before.before.loop-i.i (omega arith))
 
 returns : tie.Need-returns invariant-loop-i decreases-loop-i
 returns c =
     let st = c.before.before in
-    let n : length st.args.t2 ≡ most_symbols = search rules in
-    let e = total_none st.args.t2 c.before.loop-i.i (omega arith) in
-    rest_some st.args.room st.args.t2 _ (omega arith)
+    let n : length st.args.counts ≡ most_symbols = search rules in
+    let e = total_none st.args.counts c.before.loop-i.i (omega arith) in
+    rest_some st.args.room st.args.counts _ (omega arith)
 
 pub take_from_spec : {M : Type 1} → statement M
 take_from_spec =

@@ -7,24 +7,24 @@ use Rattle.reads.specs.Reads.{field}
 use Rattle.reads.proofs.field_of.Statement.{statement}
 use Rattle.reads.proofs.field_of.Tie as tie
 
-small : (c : tie.After-shared-slice-known) → field c.before.args.reads.now c.before.args.n c.before.args.f < 256
-small c = omega (arith, c.shared-slice-known.given (c.before.args.n * 3 + c.before.args.f))
+small : (c : tie.After-shared_slice_known-1) → field c.before.args.reads.now c.before.args.n c.before.args.f < 256
+small c = omega (arith, c.shared_slice_known-1.given (c.before.args.n * 3 + c.before.args.f))
 
-mul-result : tie.Need-overflow-mul-result
-mul-result c = search rules
+overflow_mul-result : tie.Need-overflow_mul-result
+overflow_mul-result c = search rules
 
-add-result : tie.Need-overflow-add-result
-add-result c = search rules
+overflow_add-result : tie.Need-overflow_add-result
+overflow_add-result c = search rules
 
-shared-slice-read-result : tie.Need-shared-slice-read-result
-shared-slice-read-result c = search rules
+bounds-reads-n : tie.Need-bounds-reads-n
+bounds-reads-n c = search rules
 
-cast-result : tie.Need-overflow-cast-result
-cast-result c = omega (arith, small c)
+overflow_cast-result : tie.Need-overflow_cast-result
+overflow_cast-result c = omega (arith, small c)
 
 returns : tie.Need-returns
 returns c = (refl, small c)
 
 pub field_of_spec : {M : Type 1} → statement M
 field_of_spec =
-    tie.close (tie.spec mul-result add-result shared-slice-read-result cast-result returns)
+    tie.close (tie.spec overflow_mul-result overflow_add-result bounds-reads-n overflow_cast-result returns)

@@ -8,8 +8,8 @@ use Rattle.rows.proofs.Groups.{some_banks, updatable}
 use Rattle.rows.proofs.update_packet.Statement.{statement}
 use Rattle.rows.proofs.update_packet.Tie as tie
 
-offset-of-requires : tie.Need-offset-of-requires
-offset-of-requires c κs =
+offset_of-first-requires : tie.Need-offset_of-first-requires
+offset_of-first-requires c κs =
     let p = c.before.before.requires in (
       p.0.0,
       record {
@@ -20,27 +20,27 @@ offset-of-requires c κs =
       },
     )
 
-mul-update-symbol : tie.Need-overflow-mul-update-symbol
-mul-update-symbol c = omega (arith, row_bytes _ c.before.before.before.before.before.requires.0.0)
+overflow_mul-shape : tie.Need-overflow_mul-shape
+overflow_mul-shape c = omega (arith, row_bytes _ c.before.before.before.before.before.requires.0.0)
 
-update-symbol-requires : tie.Need-update-symbol-requires
-update-symbol-requires c κs =
+update_symbol-requires : tie.Need-update_symbol-requires
+update_symbol-requires c κs =
     let s = c.before.before.before.before.before in
     let p = s.requires in
     let a = s.args in
-    updatable a.shape _ a.x a.i a.row c.before.before.offset-of.ensures p.0.0 p.0.1 a.packet.now a.store.now p.1.0 p.1.1
+    updatable a.shape _ a.x a.i a.row c.before.before.offset_of-first.ensures p.0.0 p.0.1 a.packet.now a.store.now p.1.0 p.1.1
 
-same_length : tie.Need-same-length
-same_length c = search rules
+shape_of-store : tie.Need-shape_of-store
+shape_of-store c = search rules
 
 returns : tie.Need-returns
 returns c =
     let f = c.before.before in
     let s = f.before.before.before.before.before.before in
     let a = s.args in
-    f.update-symbol.ensures
-    ∙ rw (f.before.before.before.offset-of.ensures, s.requires.1.1)
+    f.update_symbol.ensures
+    ∙ rw (f.before.before.before.offset_of-first.ensures, s.requires.1.1)
     (sym (packet_spaced a.shape a.row a.x a.i a.packet.now a.store.now s.requires.0.1 s.requires.1.0 s.requires.1.1))
 
 pub update_packet_spec : {M : Type 1} → statement M
-update_packet_spec = tie.close (tie.spec offset-of-requires mul-update-symbol update-symbol-requires same_length returns)
+update_packet_spec = tie.close (tie.spec offset_of-first-requires overflow_mul-shape update_symbol-requires shape_of-store returns)

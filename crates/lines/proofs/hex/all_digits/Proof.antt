@@ -3,7 +3,6 @@ use mathlib.Core.Path.{◌≡◌, refl, sym, ap, ◌∙◌}
 use mathlib.Core.Bool.{Bool, true, false, ◌&&◌}
 use Prim.Native.Nat.{◌+◌, ◌-◌, ◌≤◌}
 use native.Mathlib.Omega.{arith}
-use borrow.Author.Tests.{not-true, not-false}
 use lib.ListN.{length, drop, drop_of_length-le}
 use Rattle.lines.specs.Lines.{each}
 use Rattle.lines.specs.Hex.{is_digit}
@@ -35,7 +34,7 @@ is_digit-requires : tie.Need-is_digit-requires invariant-loop-i decreases-loop-i
 is_digit-requires c κs = tt
 
 returns-then-not-is_digit : tie.Need-returns-then-not-is_digit invariant-loop-i decreases-loop-i
-returns-then-not-is_digit c = sym (turn c.before false (not-true _ c.if-not-is_digit.true))
+returns-then-not-is_digit c = sym (turn c.before false c.if-not-is_digit.true)
 
 overflow_add-i : tie.Need-overflow_add-i invariant-loop-i decreases-loop-i
 overflow_add-i c = omega arith
@@ -44,7 +43,7 @@ loop-i-smaller : tie.Need-loop-i-smaller invariant-loop-i decreases-loop-i
 loop-i-smaller c = omega arith
 
 loop-i-preserved : tie.Need-loop-i-preserved invariant-loop-i decreases-loop-i
-loop-i-preserved c = (omega arith, turn c.before true (not-false _ c.if-not-is_digit.false))
+loop-i-preserved c = (omega arith, turn c.before true c.if-not-is_digit.false)
 
 returns : tie.Need-returns invariant-loop-i decreases-loop-i
 returns c = sym (c.before.loop-i.invariant.1 ∙ ap (each is_digit) (drop_of_length-le _ {i = c.before.loop-i.i} (omega arith)))

@@ -69,7 +69,7 @@ loop-i-preserved c =
       omega arith,
       simp length-set (omega arith),
       put_next _ (bytes_of d) _ _ _ (omega (arith, length_bytes d)) a.loop-i.invariant.2
-          (rw (c.before.before.value_of_lem.ensures.0, c.value_of-in-loop-i.ensures.0) (byte_at d a.loop-i.i (omega arith))),
+          (rw (c.before.before.value_of.ensures.0, c.value_of-in-loop-i.ensures.0) (byte_at d a.loop-i.i (omega arith))),
     )
 
 shape_of-bytes : tie.Need-shape_of-bytes invariant-loop-i decreases-loop-i
