@@ -1,4 +1,6 @@
 // A read cycle: its list is judged, its reads are counted by group and symbol, each group is planned, and every read is served.
+#![tactic(auto)]
+
 ghost use Rattle.std.specs.Prelude.{◌≡◌, ◌∷◌, [], ℕ, ◌+◌, ◌*◌, ◌≤◌, ◌<◌, length, get_or};
 ghost use Rattle.bits.specs.Marks.{marked};
 ghost use Rattle.refusals.specs.declared.Verdict.TheVariants.{Accepted};

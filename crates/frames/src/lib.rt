@@ -1,4 +1,6 @@
 // Frames and answers of a session: what a line is read as, and how an answer is written.
+#![tactic(auto)]
+
 ghost use Rattle.std.specs.Prelude.{◌≡◌, [], ◌∷◌, ◌+◌, ◌*◌, ◌≤◌, length, take};
 ghost use Rattle.cells.specs.Cell.{cell};
 ghost use Rattle.frames.specs.Frames.{line_refusal, frame_of, said};

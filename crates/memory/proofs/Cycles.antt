@@ -152,15 +152,16 @@ module _ (st : State) (s reads out schedule : List ℕ) where
   pub promised : (v w : Verdict) → refusal ≡ v → v ≡ w → (out' schedule' : List ℕ)
       → out' ≡ if_refused out (packets_out sh s reads out) v → schedule' ≡ if_refused schedule (lines_out sh reads schedule) v
       → (record { state = st; answer = answer_by Served w } ≡ cycle_outcome st (length s) reads (length out) (length schedule))
-      × ((out' ≡ cycle_output st s reads out schedule)
-      × ((schedule' ≡ cycle_schedule st s reads out schedule)
-      × (Demand3 st s reads (length out) (length schedule) (answer_by Served w) out' schedule'
-      × ((answer_by Served w ≡ Served → PlansAudited sh reads) × (answer_by Served w ≡ Served → SystematicLines reads schedule')))))
+      × (out' ≡ cycle_output st s reads out schedule)
+      × (schedule' ≡ cycle_schedule st s reads out schedule)
+      × Demand3 st s reads (length out) (length schedule) (answer_by Served w) out' schedule'
+      × (answer_by Served w ≡ Served → PlansAudited sh reads)
+      × (answer_by Served w ≡ Served → SystematicLines reads schedule')
   promised v w e same out' schedule' packets lines =
       let a : w ≡ refusal = sym (e ∙ same) in
       let b : out' ≡ cycle_output st s reads out schedule = rw e packets in
       let c : schedule' ≡ cycle_schedule st s reads out schedule = rw e lines in
-      (rw a, (b, (c, (rw (a, b, c) demand3, (rw a audited, rw (a, c) systematic)))))
+      (rw a, b, c, rw (a, b, c) demand3, rw a audited, rw (a, c) systematic)
 
 -- ---- the packet of a pair, where the cells of its row are those of the code
 

@@ -1,5 +1,5 @@
 -- What a memory holds and answers after any history: whatever is asked of it, it stays as the history says.
-use mathlib.Core.Path.{◌≡◌, refl, sym, ap, ◌∙◌}
+use mathlib.Core.Path.{◌≡◌, refl, sym, ap, ◌∙◌, subst}
 use mathlib.Core.Logic.{◌≢◌}
 use mathlib.Core.Bool.{Bool, true, false, cond, ◌&&◌, not, false≢true}
 use mathlib.Core.List.{List, [], ◌∷◌}
@@ -300,7 +300,9 @@ by_operation history memory k (read reads out schedule) =
 
 -- the state's shape is the one of set-up
 follows : (sh : Shape) (history : History) (memory : Memory) → Agrees sh history memory → (operation : Operation) → Follows sh history memory operation
-follows sh history memory k operation = rw (← k.shape) (by_operation history memory (rw (← k.shape) at k) operation)
+follows sh history memory k operation =
+    subst (λ (s : Shape). Follows s history memory operation) k.shape
+    (by_operation history memory (subst (λ (s : Shape). Agrees s history memory) (sym k.shape) k) operation)
 
 returns : (sh : Shape) (history : History) (memory : Memory) → Agrees sh history memory → (reads out schedule : List ℕ)
     → (outcome_of memory (read reads out schedule)).answer ≡ Served → (n : ℕ) → n < read_count reads

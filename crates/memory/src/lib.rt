@@ -1,4 +1,6 @@
 // A memory: its state, and the operations that set it up, write a row, update a packet of one, release one or several and read packets.
+#![tactic(auto)]
+
 ghost use Rattle.std.specs.Prelude.{◌≡◌, true, ◌<◌, length};
 ghost use Rattle.bits.specs.Marks.{marked, how_many};
 ghost use Rattle.refusals.specs.declared.Verdict.TheVariants.{Accepted};

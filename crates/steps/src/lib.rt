@@ -1,4 +1,6 @@
 // One step of a session: what each frame does with the memory and the store, and the line that answers it.
+#![tactic(auto)]
+
 ghost use Rattle.std.specs.Prelude.{◌≡◌, List, ℕ, ◌*◌, ◌≤◌, ◌<◌, min, length};
 ghost use Rattle.memory.specs.History.{write, release};
 ghost use Rattle.frames.specs.Frames.{most_frame, frame_of};

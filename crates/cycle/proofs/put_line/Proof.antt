@@ -6,20 +6,20 @@ use Rattle.cycle.proofs.Serving.{two_bytes}
 use Rattle.cycle.proofs.put_line.Statement.{statement}
 use Rattle.cycle.proofs.put_line.Tie as tie
 
-slice-write-s : tie.Need-slice-write-s
-slice-write-s c = search rules
+bounds-s-at : tie.Need-bounds-s-at
+bounds-s-at c = search rules
 
-add-s : tie.Need-overflow-add-s
-add-s c = search rules
+overflow_add-s : tie.Need-overflow_add-s
+overflow_add-s c = search rules
 
-slice-write-s-2 : tie.Need-slice-write-s-2
-slice-write-s-2 c = simp length-set (omega arith)
+bounds-s-at-2 : tie.Need-bounds-s-at-2
+bounds-s-at-2 c = simp length-set (omega arith)
 
-same_length : tie.Need-same-length
-same_length c = search rules
+shape_of-s : tie.Need-shape_of-s
+shape_of-s c = search rules
 
 returns : tie.Need-returns
 returns c = two_bytes _ _ _ _
 
 pub put_line_spec : {M : Type 1} → statement M
-put_line_spec = tie.close (tie.spec slice-write-s add-s slice-write-s-2 same_length returns)
+put_line_spec = tie.close (tie.spec bounds-s-at overflow_add-s bounds-s-at-2 shape_of-s returns)

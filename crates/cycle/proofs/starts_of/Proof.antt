@@ -11,91 +11,91 @@ use Rattle.cycle.proofs.Starts.{start_at, start_none, start_next, start_more, st
 use Rattle.cycle.proofs.starts_of.Statement.{statement}
 use Rattle.cycle.proofs.starts_of.Tie as tie
 
-abbrev invariant-loop : tie.invariant-loop
-invariant-loop counts starts₀ at₀ e₀ starts at e =
+abbrev invariant-loop-e : tie.invariant-loop-e
+invariant-loop-e counts starts₀ at₀ e₀ starts at e =
     (e ≤ most_groups * most_symbols) × (length starts ≡ most_groups * most_symbols) × (at ≤ e * most_pairs) × (at ≡ start_at counts e)
     × ((p : ℕ) → p < e → get_or starts p 0 ≡ start_at counts p)
 
-abbrev decreases-loop : tie.decreases-loop
-decreases-loop counts starts₀ at₀ e₀ starts at e = most_groups * most_symbols - e
+abbrev decreases-loop-e : tie.decreases-loop-e
+decreases-loop-e counts starts₀ at₀ e₀ starts at e = most_groups * most_symbols - e
 
 -- in a turn, the count at place e is small
-small : (c : tie.In-loop invariant-loop decreases-loop) → get_or c.before.before.args.t1 c.before.loop.e 0 ≤ most_pairs
-small c = c.before.before.requires c.before.loop.e c.loop-test.true
+small : (c : tie.In-loop-e invariant-loop-e decreases-loop-e) → get_or c.before.before.args.counts c.before.loop-e.e 0 ≤ most_pairs
+small c = c.before.before.requires c.before.loop-e.e c.loop-e-test.true
 
-loop-holds : tie.Need-loop-init invariant-loop decreases-loop
-loop-holds c = (omega arith, refl, omega arith, start_none c.args.t1, λ p h. absurd (not-suc-le-zero h))
+loop-e-init : tie.Need-loop-e-init invariant-loop-e decreases-loop-e
+loop-e-init c = (omega arith, refl, omega arith, start_none c.args.counts, λ p h. absurd (not-suc-le-zero h))
 
-mul-starts : tie.Need-overflow-mul-starts invariant-loop decreases-loop
-mul-starts c = omega arith
+offset_bounds-starts-e : tie.Need-offset_bounds-starts-e invariant-loop-e decreases-loop-e
+offset_bounds-starts-e c = omega arith
 
-array-write-starts : tie.Need-array-write-starts invariant-loop decreases-loop
-array-write-starts c = omega arith
+bounds-starts-e : tie.Need-bounds-starts-e invariant-loop-e decreases-loop-e
+bounds-starts-e c = omega arith
 
-mul_at : tie.Need-overflow-mul-at invariant-loop decreases-loop
-mul_at c = omega arith
+offset_bounds-counts-e : tie.Need-offset_bounds-counts-e invariant-loop-e decreases-loop-e
+offset_bounds-counts-e c = omega arith
 
-array-read-at : tie.Need-array-read-at invariant-loop decreases-loop
-array-read-at c = omega arith
+bounds-counts-e : tie.Need-bounds-counts-e invariant-loop-e decreases-loop-e
+bounds-counts-e c = omega arith
 
-add_at : tie.Need-overflow-add-at invariant-loop decreases-loop
-add_at c = omega (arith, small c)
+overflow_add-at : tie.Need-overflow_add-at invariant-loop-e decreases-loop-e
+overflow_add-at c = omega (arith, small c)
 
-add-e : tie.Need-overflow-add-e invariant-loop decreases-loop
-add-e c = omega arith
+overflow_add-e : tie.Need-overflow_add-e invariant-loop-e decreases-loop-e
+overflow_add-e c = omega arith
 
-mul-at-2 : tie.Need-overflow-mul-at-2 invariant-loop decreases-loop
-mul-at-2 c = omega arith
+overflow_mul-at : tie.Need-overflow_mul-at invariant-loop-e decreases-loop-e
+overflow_mul-at c = omega arith
 
-loop-less : tie.Need-loop-smaller invariant-loop decreases-loop
-loop-less c = omega arith
+loop-e-smaller-then-e-eq0 : tie.Need-loop-e-smaller-then-e-eq0 invariant-loop-e decreases-loop-e
+loop-e-smaller-then-e-eq0 c = omega arith
 
-loop-again : tie.Need-loop-preserved invariant-loop decreases-loop
-loop-again c =
-    let l = c.before.before.loop in
+loop-e-preserved-then-e-eq0 : tie.Need-loop-e-preserved-then-e-eq0 invariant-loop-e decreases-loop-e
+loop-e-preserved-then-e-eq0 c =
+    let l = c.before.before.loop-e in
     let a = c.before.before.before.args in (
       omega arith,
       length-set l.starts l.e l.at ∙ l.invariant.1,
       omega arith,
-      start_next a.t1 l.e c.if1.true,
-      set_more l.starts l.e l.at (start_at a.t1) (omega arith) l.invariant.3 l.invariant.4,
+      start_next a.counts l.e c.if-e-eq0.true,
+      set_more l.starts l.e l.at (start_at a.counts) (omega arith) l.invariant.3 l.invariant.4,
     )
 
-loop-less-2 : tie.Need-loop-smaller-2 invariant-loop decreases-loop
-loop-less-2 c = omega arith
+loop-e-smaller : tie.Need-loop-e-smaller invariant-loop-e decreases-loop-e
+loop-e-smaller c = omega arith
 
-loop-again-2 : tie.Need-loop-preserved-2 invariant-loop decreases-loop
-loop-again-2 c =
-    let l = c.before.before.loop in
+loop-e-preserved : tie.Need-loop-e-preserved invariant-loop-e decreases-loop-e
+loop-e-preserved c =
+    let l = c.before.before.loop-e in
     let a = c.before.before.before.args in (
       omega arith,
       length-set l.starts l.e l.at ∙ l.invariant.1,
       omega (arith, small c.before),
-      ap (λ (n : ℕ). n + get_or a.t1 l.e 0) l.invariant.3 ∙ start_more a.t1 l.e c.if1.false,
-      set_more l.starts l.e l.at (start_at a.t1) (omega arith) l.invariant.3 l.invariant.4,
+      ap (λ (n : ℕ). n + get_or a.counts l.e 0) l.invariant.3 ∙ start_more a.counts l.e c.if-e-eq0.false,
+      set_more l.starts l.e l.at (start_at a.counts) (omega arith) l.invariant.3 l.invariant.4,
     )
 
-returns : tie.Need-returns invariant-loop decreases-loop
+returns : tie.Need-returns invariant-loop-e decreases-loop-e
 returns c =
-    let l = c.before.loop in
-    starts_grid c.before.before.args.t1 l.starts l.invariant.1 (λ e h. l.invariant.4 e (omega (arith, c.loop-test.false)))
+    let l = c.before.loop-e in
+    starts_grid c.before.before.args.counts l.starts l.invariant.1 (λ e h. l.invariant.4 e (omega (arith, c.loop-e-test.false)))
 
 pub starts_of_spec : {M : Type 1} → statement M
 starts_of_spec =
     tie.close
     (tie.spec
-    invariant-loop
-    decreases-loop
-    loop-holds
-    mul-starts
-    array-write-starts
-    mul_at
-    array-read-at
-    add_at
-    add-e
-    mul-at-2
-    loop-less
-    loop-again
-    loop-less-2
-    loop-again-2
+    invariant-loop-e
+    decreases-loop-e
+    loop-e-init
+    offset_bounds-starts-e
+    bounds-starts-e
+    offset_bounds-counts-e
+    bounds-counts-e
+    overflow_add-at
+    overflow_add-e
+    overflow_mul-at
+    loop-e-smaller-then-e-eq0
+    loop-e-preserved-then-e-eq0
+    loop-e-smaller
+    loop-e-preserved
     returns)

@@ -8,17 +8,17 @@ use Rattle.frames.proofs.print_line.Tie as tie
 encode-requires : tie.Need-encode-requires
 encode-requires c κs = search rules
 
-mul-end : tie.Need-overflow-mul-end
-mul-end c = search rules
+overflow_mul-end : tie.Need-overflow_mul-end
+overflow_mul-end c = search rules
 
-slice-write-out : tie.Need-slice-write-out
-slice-write-out c = search rules
+bounds-out-end : tie.Need-bounds-out-end
+bounds-out-end c = search rules
 
-add-result : tie.Need-overflow-add-result
-add-result c = search rules
+overflow_add-result : tie.Need-overflow_add-result
+overflow_add-result c = search rules
 
-same_length : tie.Need-same-length
-same_length c = search rules
+shape_of-out : tie.Need-shape_of-out
+shape_of-out c = search rules
 
 returns : tie.Need-returns
 returns c = record {
@@ -29,4 +29,4 @@ returns c = record {
 
 pub print_line_spec : {M : Type 1} → statement M
 print_line_spec =
-    tie.close (tie.spec encode-requires mul-end slice-write-out add-result same_length returns)
+    tie.close (tie.spec encode-requires overflow_mul-end bounds-out-end overflow_add-result shape_of-out returns)

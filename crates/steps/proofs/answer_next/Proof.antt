@@ -9,41 +9,41 @@ use Rattle.steps.proofs.answer_next.Statement.{statement}
 use Rattle.steps.proofs.answer_next.Tie as tie
 
 -- the line lies in the text
-inside : (c : tie.After-next-line)
-    → let line = c.next-line.result in
+inside : (c : tie.After-next_line-line)
+    → let line = c.next_line-line.result in
     let a = c.before.before.before.args in
     (a.at ≤ line.end) × (line.end ≤ length a.text.now)
-inside c = let a = c.before.before.before.args in rw c.next-line.ensures (omega arith, end_within a.text.now a.at (omega arith))
+inside c = let a = c.before.before.before.args in rw c.next_line-line.ensures (omega arith, end_within a.text.now a.at (omega arith))
 
-returns : tie.Need-returns
-returns c = record {
+returns-then-text-at : tie.Need-returns-then-text-at
+returns-then-text-at c = record {
   next = λ h. absurd (omega arith);
   line = λ h. absurd (omega arith);
   none = λ h. (refl, refl, refl);
 }
 
-next-line-requires : tie.Need-next-line-requires
-next-line-requires c κs = search rules
+next_line-line-requires : tie.Need-next_line-line-requires
+next_line-line-requires c κs = search rules
 
-sub-step : tie.Need-overflow-sub-step
-sub-step c = let i = inside c in omega arith
+slice_bounds-step-count : tie.Need-slice_bounds-step-count
+slice_bounds-step-count c = let i = inside c in omega arith
 
-part-step-start : tie.Need-slice-bounds-step-start
-part-step-start c = let i = inside c in omega arith
+slice_bounds-step-start : tie.Need-slice_bounds-step-start
+slice_bounds-step-start c = let i = inside c in omega arith
 
-part-step-end : tie.Need-slice-bounds-step-end
-part-step-end c = let i = inside c in omega arith
+slice_bounds-step-end : tie.Need-slice_bounds-step-end
+slice_bounds-step-end c = let i = inside c in omega arith
 
-step-requires : tie.Need-step-requires
-step-requires c κs = search rules
+step-reply-requires : tie.Need-step-reply-requires
+step-reply-requires c κs = search rules
 
-returns-2 : tie.Need-returns-2
-returns-2 c =
+returns : tie.Need-returns
+returns c =
     let n = c.before.before.before.before in
     let a = n.before.before.before.args in
     record {
-      next = λ h. rw n.next-line.ensures;
-      line = λ h. rw (← line_part a.text.now a.at) (rw n.next-line.ensures at c.step.ensures);
+      next = λ h. rw n.next_line-line.ensures;
+      line = λ h. rw (← line_part a.text.now a.at) (rw n.next_line-line.ensures at c.step-reply.ensures);
       none = λ h. absurd (omega arith);
     }
 
@@ -51,10 +51,10 @@ pub answer_next_spec : {M : Type 1} → statement M
 answer_next_spec =
     tie.close
     (tie.spec
-    returns
-    next-line-requires
-    sub-step
-    part-step-start
-    part-step-end
-    step-requires
-    returns-2)
+    returns-then-text-at
+    next_line-line-requires
+    slice_bounds-step-count
+    slice_bounds-step-start
+    slice_bounds-step-end
+    step-reply-requires
+    returns)

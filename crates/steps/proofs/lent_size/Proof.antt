@@ -9,43 +9,43 @@ use Rattle.steps.specs.Parts.{lent_size}
 use Rattle.steps.proofs.lent_size.Statement.{statement}
 use Rattle.steps.proofs.lent_size.Tie as tie
 
-accepted : (c : tie.After-enum-told2) → shape_refusal c.before.before.before.args.shape ≡ Accepted
-accepted c = sym c.before.before.judge-shape.ensures ∙ c.enum-told2.given.1
+accepted : (c : tie.In_default) → shape_refusal c.before.before.before.args.shape ≡ Accepted
+accepted c = sym c.before.before.judge_shape-verdict.ensures ∙ c.enum_told-in_default-1.given.1
 
-whole : (c : tie.After-store-size) → lent_size c.before.before.before.before.args.shape ≡ c.store-size.result
+whole : (c : tie.After-store_size-size) → lent_size c.before.before.before.before.args.shape ≡ c.store_size-size.result
 unfolding lent_size
-whole c = rw (accepted c.before) (sym c.store-size.ensures)
+whole c = rw (accepted c.before) (sym c.store_size-size.ensures)
 
-judge-shape-requires : tie.Need-judge-shape-requires
-judge-shape-requires c κs = search rules
+judge_shape-verdict-requires : tie.Need-judge_shape-verdict-requires
+judge_shape-verdict-requires c κs = search rules
 
-enum_told : tie.Need-enum-told
-enum_told c = search rules
+enum_told-1 : tie.Need-enum_told-1
+enum_told-1 c = search rules
 
-returns : tie.Need-returns
+returns-in-Refused : tie.Need-returns-in-Refused
 unfolding lent_size
-returns c = rw (sym c.before.before.judge-shape.ensures ∙ c.enum_told.given.1)
+returns-in-Refused c = rw (sym c.before.before.judge_shape-verdict.ensures ∙ c.enum_told-1.given.1)
 
-enum-told-2 : tie.Need-enum-told-2
-enum-told-2 c = search rules
+enum_told-in_default : tie.Need-enum_told-in_default
+enum_told-in_default c = search rules
 
-store-size-requires : tie.Need-store-size-requires
-store-size-requires c κs = range_words _ (accepted c)
+store_size-size-requires : tie.Need-store_size-size-requires
+store_size-size-requires c κs = range_words _ (accepted c)
 
-returns-2 : tie.Need-returns-2
-returns-2 c = rw (whole c.before) (omega arith)
+returns-then-size-le-MOST_STORE : tie.Need-returns-then-size-le-MOST_STORE
+returns-then-size-le-MOST_STORE c = rw (whole c.before) (omega arith)
 
-returns-3 : tie.Need-returns-3
-returns-3 c = rw (whole c.before) (omega arith)
+returns-else-size-le-MOST_STORE : tie.Need-returns-else-size-le-MOST_STORE
+returns-else-size-le-MOST_STORE c = rw (whole c.before) (omega arith)
 
 pub lent_size_spec : {M : Type 1} → statement M
 lent_size_spec =
     tie.close
     (tie.spec
-    judge-shape-requires
-    enum_told
-    returns
-    enum-told-2
-    store-size-requires
-    returns-2
-    returns-3)
+    judge_shape-verdict-requires
+    enum_told-1
+    returns-in-Refused
+    enum_told-in_default
+    store_size-size-requires
+    returns-then-size-le-MOST_STORE
+    returns-else-size-le-MOST_STORE)

@@ -4,11 +4,11 @@ use borrow.Author.Rules.{rules}
 use Rattle.steps.proofs.refuse.Statement.{statement}
 use Rattle.steps.proofs.refuse.Tie as tie
 
-print-answer-requires : tie.Need-print-answer-requires
-print-answer-requires c κs = search rules
+print_answer-len-requires : tie.Need-print_answer-len-requires
+print_answer-len-requires c κs = search rules
 
 returns : tie.Need-returns
-returns c s = record { session = refl; store = refl; line = c.print-answer.ensures }
+returns c s = record { session = refl; store = refl; line = c.print_answer-len.ensures }
 
 pub refuse_spec : {M : Type 1} → statement M
-refuse_spec = tie.close (tie.spec print-answer-requires returns)
+refuse_spec = tie.close (tie.spec print_answer-len-requires returns)

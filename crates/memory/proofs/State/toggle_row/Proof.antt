@@ -7,16 +7,16 @@ use Rattle.memory.proofs.State.toggle_row.Statement.{statement}
 use Rattle.memory.proofs.State.toggle_row.Tie as tie
 
 toggle-requires : tie.Need-toggle-requires
-toggle-requires c κs = omega (arith, (sound_words _ c.pre.0).ranges.rows)
+toggle-requires c κs = omega (arith, (sound_words _ c.requires.0).ranges.rows)
 
-with-full-requires : tie.Need-with-full-requires
-with-full-requires c κs = search rules
+with_full-requires : tie.Need-with_full-requires
+with_full-requires c κs = search rules
 
 returns : tie.Need-returns
 returns c =
     let s = c.before.before in
-    let sound = toggled_sound s.args.self s.args.row (sound_words _ s.pre.0) s.pre.1 in
-    rw (← all_counted _ sound, ← c.before.toggle.ensures) c.with-full.ensures
+    let sound = toggled_sound s.args.self s.args.row (sound_words _ s.requires.0) s.requires.1 in
+    rw (← all_counted _ sound, ← c.before.toggle.ensures) c.with_full.ensures
 
 pub toggle_row_spec : {M : Type 1} → statement M
-toggle_row_spec = tie.close (tie.spec toggle-requires with-full-requires returns)
+toggle_row_spec = tie.close (tie.spec toggle-requires with_full-requires returns)

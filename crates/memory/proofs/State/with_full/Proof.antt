@@ -3,11 +3,11 @@ use borrow.Author.Rules.{rules}
 use Rattle.memory.proofs.State.with_full.Statement.{statement}
 use Rattle.memory.proofs.State.with_full.Tie as tie
 
-count-requires : tie.Need-count-requires
-count-requires c κs = search rules
+count-rows-requires : tie.Need-count-rows-requires
+count-rows-requires c κs = search rules
 
 returns : tie.Need-returns
-returns c = rw c.count.ensures
+returns c = rw c.count-rows.ensures
 
 pub with_full_spec : {M : Type 1} → statement M
-with_full_spec = tie.close (tie.spec count-requires returns)
+with_full_spec = tie.close (tie.spec count-rows-requires returns)
