@@ -140,7 +140,9 @@ by_lines : (session : Session) (store : List ℕ) → length store ≡ most_stor
 unfolding lines_done past_in
 by_lines session store size past h [] = h
 by_lines session store size past h (line ∷ lines) =
-    let one = by_line session store size past h line in by_lines _ _ one.1 _ one.0 lines
+    let one = by_line session store size past h line in
+    let after = line_done session store line in
+    by_lines after.session after.store one.1 (past_by past line) one.0 lines
 
 keeps : (past : Past) (session : Session) (store : List ℕ) → Has past session store → Keeps past session store
 keeps nothing session store h = h

@@ -1,0 +1,22 @@
+-- `steps::do_write` meets its contract.
+use Rattle.std.proofs.Common.{◌∙◌}
+use Rattle.memory.specs.History.{write}
+use Rattle.steps.proofs.Done.{fresh, running, writes}
+use Rattle.steps.proofs.Fitting.{fits_write}
+use Rattle.steps.proofs.do_write.Goals as goal
+
+pub returns-in_default : goal.returns-in_default
+returns-in_default c =
+    fresh c.args.session c.args.store.now 2 (λ sh. write c.args.row c.args.packets.now) c.in_default.is (c.refuse.ensures c.args.store.now)
+
+pub print_answer-len-requires : goal.print_answer-len-requires
+print_answer-len-requires c = rw c.write-outcome.ensures.outcome (fits_write _ _ _ _)
+
+pub returns : goal.returns
+returns c =
+    let a = c.args in
+    let w = c.write-outcome in
+    let same = writes c.in-Running.state a.store.now c.lent_size-size.result a.row a.packets.now c.requires c.lent_size-size.ensures in
+    let did = w.ensures.outcome ∙ same.0 in
+    running a.session a.store.now 2 (λ sh. write a.row a.packets.now) _ w.result _ a.out.now _ _ c.in-Running.is (rw did)
+    (rw w.ensures.store same.1) (rw did at c.print_answer-len.ensures)
