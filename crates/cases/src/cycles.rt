@@ -7,9 +7,9 @@ ghost use Rattle.layout.specs.Shape.{most_groups, most_rows};
 
 use crate::{print_number, print_refusal, print_text};
 use layout::MOST_GROUPS;
-use libc::STDOUT_FILENO;
 use memory::{Answer, Outcome, State};
 use simplex::{MOST_PAIRS, MOST_SYMBOLS};
+use std::io;
 
 const ROWS: usize = 4;
 
@@ -80,92 +80,101 @@ fn set_one_colliding(reads: &mut [u8]) {
     }
 }
 
-pub fn print_hexadecimal(bytes: &[u8]) {
+pub fn print_hexadecimal(rt: &impl Print, bytes: &[u8]) -> io::Result<()> {
     for i in 0..bytes.len() {
-        io::print_hex(STDOUT_FILENO, bytes[i] as u64, 2);
+        print!(rt; "{:02x}", bytes[i])?;
     }
-    print_text(b"\n");
+    print_text(rt, b"\n")
 }
 
-pub fn print_answer(outcome: Outcome) {
+pub fn print_answer(rt: &impl Print, outcome: Outcome) -> io::Result<()> {
     let answer = outcome.answer;
     match answer {
         Answer::FullRows(rows) => {
-            print_text(b"full rows ");
-            print_number(rows as u64);
+            print_text(rt, b"full rows ")?;
+            print_number(rt, rows as u64)?;
         }
         Answer::Served => {
-            print_text(b"served");
+            print_text(rt, b"served")?;
         }
-        Answer::Refused(refusal, place) => print_refusal(refusal, place),
+        Answer::Refused(refusal, place) => print_refusal(rt, refusal, place)?,
     }
-    print_text(b"\n");
+    print_text(rt, b"\n")
 }
 
 // Reads a list in one cycle, and shows the answer and every buffer.
 pub fn show_read(
+    rt: &impl Print,
     state: State,
     store: &[u8],
     reads: &[u8],
     packets: &mut [u8],
     schedule: &mut [u8],
-) {
+) -> io::Result<()> {
     let outcome = state.read_cycle(store, reads, packets, schedule);
-    print_text(b"cycle of ");
-    print_number((reads.len() / 3) as u64);
-    print_text(b" reads: ");
-    print_answer(outcome);
-    print_text(b"reads ");
-    print_hexadecimal(reads);
-    print_text(b"packets ");
-    print_hexadecimal(packets);
-    print_text(b"schedule ");
-    print_hexadecimal(schedule);
+    print_text(rt, b"cycle of ")?;
+    print_number(rt, (reads.len() / 3) as u64)?;
+    print_text(rt, b" reads: ")?;
+    print_answer(rt, outcome)?;
+    print_text(rt, b"reads ")?;
+    print_hexadecimal(rt, reads)?;
+    print_text(rt, b"packets ")?;
+    print_hexadecimal(rt, packets)?;
+    print_text(rt, b"schedule ")?;
+    print_hexadecimal(rt, schedule)
 }
 
 // The same, with buffers of the right lengths.
-fn show_cycle(state: State, store: &[u8], reads: &[u8])
+fn show_cycle(rt: &impl Print, state: State, store: &[u8], reads: &[u8]) -> io::Result<()>
     requires { length reads.now ≤ 3 * (most_groups * most_pairs + 1) }
 {
     let many = reads.len() / 3;
     let mut packets = [UNTOUCHED; BYTES * READS];
     let mut schedule = [UNTOUCHED; 2 * READS];
     show_read(
+        rt,
         state,
         store,
         reads,
         &mut packets[..BYTES * many],
         &mut schedule[..2 * many],
-    );
+    )
 }
 
 // The largest mixed cycle, or with one read more, of group 5.
-fn show_mixed(state: State, store: &[u8], k: usize, limit: usize, more: usize)
+fn show_mixed(
+    rt: &impl Print,
+    state: State,
+    store: &[u8],
+    k: usize,
+    limit: usize,
+    more: usize,
+) -> io::Result<()>
     requires { (1 ≤ k) × (k ≤ most_symbols) × (limit ≤ most_pairs) × (more ≤ 1) }
 {
     let many = MOST_GROUPS * limit;
     let mut reads = [0u8; 3 * READS];
     set_mixed(&mut reads, k);
     set_read(&mut reads, many, 1, 5, 0);
-    show_cycle(state, store, &reads[..3 * (many + more)]);
+    show_cycle(rt, state, store, &reads[..3 * (many + more)])
 }
 
 // As many equal reads as the limit.
-fn show_equal(state: State, store: &[u8], limit: usize)
+fn show_equal(rt: &impl Print, state: State, store: &[u8], limit: usize) -> io::Result<()>
     requires { limit ≤ most_pairs }
 {
     let mut reads = [0u8; 3 * READS];
     set_equal(&mut reads);
-    show_cycle(state, store, &reads[..3 * limit]);
+    show_cycle(rt, state, store, &reads[..3 * limit])
 }
 
 // As many reads of each group as it has symbols.
-fn show_one_colliding(state: State, store: &[u8], k: usize)
+fn show_one_colliding(rt: &impl Print, state: State, store: &[u8], k: usize) -> io::Result<()>
     requires { k ≤ most_symbols }
 {
     let mut reads = [0u8; 3 * READS];
     set_one_colliding(&mut reads);
-    show_cycle(state, store, &reads[..3 * MOST_GROUPS * k]);
+    show_cycle(rt, state, store, &reads[..3 * MOST_GROUPS * k])
 }
 
 // Writes every row.
@@ -182,34 +191,39 @@ fn fill(state: State, store: &mut [u8], k: usize) -> State
 }
 
 // The cycles while every row is full.
-fn show_full(state: State, store: &[u8], k: usize, limit: usize)
+fn show_full(rt: &impl Print, state: State, store: &[u8], k: usize, limit: usize) -> io::Result<()>
     requires { (1 ≤ k) × (k ≤ most_symbols) × (limit ≤ most_pairs) }
 {
-    show_mixed(state, store, k, limit, 0);
-    show_mixed(state, store, k, limit, 1);
-    show_equal(state, store, limit);
-    show_one_colliding(state, store, k);
+    show_mixed(rt, state, store, k, limit, 0)?;
+    show_mixed(rt, state, store, k, limit, 1)?;
+    show_equal(rt, state, store, limit)?;
+    show_one_colliding(rt, state, store, k)
 }
 
 // Fills a store at one K, and shows its cycles.
-fn show_cycles(store: &mut [u8], k: usize, limit: usize)
+fn show_cycles(rt: &impl Print, store: &mut [u8], k: usize, limit: usize) -> io::Result<()>
     requires { (1 ≤ k) × (k ≤ most_symbols) × (limit ≤ most_pairs) }
 {
     let new = State::set_up(k, MOST_GROUPS, BYTES, ROWS);
     let state = fill(new.state, store, k);
-    show_full(state, store, k, limit);
+    show_full(rt, state, store, k, limit)?;
     let released = state.release(2);
-    print_answer(released);
-    show_mixed(released.state, store, k, limit, 0);
+    print_answer(rt, released)?;
+    show_mixed(rt, released.state, store, k, limit, 0)
 }
 
 // The cycles of one K, with this limit and this many banks in a group.
-pub fn run(k: usize, limit: usize, banks: usize)
+pub fn run(rt: &impl Print, k: usize, limit: usize, banks: usize) -> io::Result<()>
     requires { (1 ≤ k) × (k ≤ most_symbols) × (limit ≤ most_pairs) × (banks ≤ banks_of most_symbols) }
 {
-    print_text(b"K ");
-    print_number(k as u64);
-    print_text(b"\n");
+    print_text(rt, b"K ")?;
+    print_number(rt, k as u64)?;
+    print_text(rt, b"\n")?;
     let mut space = [0u8; STORE];
-    show_cycles(&mut space[..MOST_GROUPS * banks * ROWS * BYTES], k, limit);
+    show_cycles(
+        rt,
+        &mut space[..MOST_GROUPS * banks * ROWS * BYTES],
+        k,
+        limit,
+    )
 }

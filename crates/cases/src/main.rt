@@ -6,7 +6,10 @@
 // With L = 2^(K-1), C(L+K, K) requests total at most L and ask K * C(L+K, K+1) reads, and C(L+K, K-1) total L + 1. tools/cases.py computes these,
 // and judges each plan and refusal of the first part by the words of the rules: which plan a request gets is free, except where no symbol is
 // read more than once (2^K requests). All plans but that of no reads have a first pair.
+#![tactic(auto)]
+
 ghost use Rattle.std.specs.Prelude.{◌≤◌, ◌<◌};
+ghost use Rattle.std.specs.Io.{ReadsAtMost};
 ghost use Rattle.simplex.specs.Shape.{most_symbols, most_pairs};
 
 mod cycles;
@@ -15,10 +18,14 @@ mod sets;
 mod updates;
 
 use audit::Audited;
-use libc::{STDIN_FILENO, STDOUT_FILENO};
 use plan::Plan;
 use refusals::Verdict;
 use simplex::{MOST_PAIRS, MOST_SYMBOLS};
+use std::io;
+use std::io::Read;
+
+// The bytes of standard input that are read.
+const MOST_REQUESTS: usize = 4096;
 
 // What a run over many requests counts: those within the limit, the plans that the audit says yes to and their pairs, the plans that open one bank a
 // read for requests that read no symbol twice, the requests of one read more, the refusals by number 12, and the plans, each with the banks of its
@@ -41,19 +48,19 @@ struct Line {
     at: usize,
 }
 
-pub fn print_text(t: &[u8]) {
-    io::write_all(STDOUT_FILENO, t);
+pub fn print_text(rt: &impl Print, t: &[u8]) -> io::Result<()> {
+    rt.write_all(t)
 }
 
-pub fn print_number(n: u64) {
-    io::print_decimal(STDOUT_FILENO, n);
+pub fn print_number(rt: &impl Print, n: u64) -> io::Result<()> {
+    print!(rt; "{n}")
 }
 
-pub fn print_refusal(refusal: u8, place: usize) {
-    print_text(b"refused ");
-    print_number(refusal as u64);
-    print_text(b", place ");
-    print_number(place as u64);
+pub fn print_refusal(rt: &impl Print, refusal: u8, place: usize) -> io::Result<()> {
+    print_text(rt, b"refused ")?;
+    print_number(rt, refusal as u64)?;
+    print_text(rt, b", place ")?;
+    print_number(rt, place as u64)
 }
 
 // The pairs of a plan as the audit takes them: two bytes each.
@@ -121,61 +128,63 @@ fn is_denied(k: usize, counts: [usize; MOST_SYMBOLS], plan: Plan) -> bool {
     }
 }
 
-fn print_pair(a: u8, b: u8) {
-    print_text(b" (");
-    print_number(a as u64);
-    print_text(b",");
-    print_number(b as u64);
-    print_text(b")");
+fn print_pair(rt: &impl Print, a: u8, b: u8) -> io::Result<()> {
+    print_text(rt, b" (")?;
+    print_number(rt, a as u64)?;
+    print_text(rt, b",")?;
+    print_number(rt, b as u64)?;
+    print_text(rt, b")")
 }
 
-fn print_pairs(plan: Plan) {
+fn print_pairs(rt: &impl Print, plan: Plan) -> io::Result<()> {
     let first = plan.first;
     let second = plan.second;
     let len = plan.len;
     for n in 0..MOST_PAIRS {
         if n < len {
-            print_pair(first[n], second[n]);
+            print_pair(rt, first[n], second[n])?;
         }
     }
+    Ok(())
 }
 
-fn print_count(c: usize) {
-    print_text(b" ");
-    print_number(c as u64);
+fn print_count(rt: &impl Print, c: usize) -> io::Result<()> {
+    print_text(rt, b" ")?;
+    print_number(rt, c as u64)
 }
 
-fn print_request(k: usize, counts: [usize; MOST_SYMBOLS]) {
-    print_text(b"K ");
-    print_number(k as u64);
-    print_text(b", counts");
+fn print_request(rt: &impl Print, k: usize, counts: [usize; MOST_SYMBOLS]) -> io::Result<()> {
+    print_text(rt, b"K ")?;
+    print_number(rt, k as u64)?;
+    print_text(rt, b", counts")?;
     for i in 0..MOST_SYMBOLS {
-        print_count(counts[i]);
+        print_count(rt, counts[i])?;
     }
-    print_text(b":");
+    print_text(rt, b":")
 }
 
 // Plans one request, and shows the answer.
-fn show(k: usize, counts: [usize; MOST_SYMBOLS]) {
-    print_request(k, counts);
+fn show(rt: &impl Print, k: usize, counts: [usize; MOST_SYMBOLS]) -> io::Result<()> {
+    print_request(rt, k, counts)?;
     let planned = plan::plan_group(k, counts);
     let verdict = planned.verdict;
     let plan = planned.plan;
     match verdict {
         Verdict::Accepted => {
-            print_pairs(plan);
+            print_pairs(rt, plan)?;
             if is_passed(k, counts, plan) {
-                print_text(b"; the audit says yes\n");
+                print_text(rt, b"; the audit says yes\n")?;
             } else {
-                print_text(b"; the audit says no\n");
+                print_text(rt, b"; the audit says no\n")?;
             }
         }
         Verdict::Refused(refusal, place) => {
-            print_text(b" ");
-            print_refusal(refusal, place);
-            print_text(b"\n");
+            print_text(rt, b" ")?;
+            print_refusal(rt, refusal, place)?;
+            print_text(rt, b"\n")?;
         }
     }
+    Ok(())
 }
 
 // n and `by` more. No run comes near the largest number.
@@ -230,7 +239,7 @@ fn request(x: usize, k: usize, base: usize) -> [usize; MOST_SYMBOLS]
 }
 
 // Every request of k symbols that totals at most limit + 1. They are among the `many`, (limit + 2)^k, whose counts are each at most limit + 1.
-fn run(k: usize, limit: usize, many: usize)
+fn run(rt: &impl Print, k: usize, limit: usize, many: usize) -> io::Result<()>
     requires { (k ≤ most_symbols) × (limit ≤ most_pairs) }
 {
     let mut tally = Tally {
@@ -249,27 +258,30 @@ fn run(k: usize, limit: usize, many: usize)
             tally = count(tally, k, counts, rest.left);
         }
     }
-    print_tally(k, tally);
+    print_tally(rt, k, tally)
 }
 
-fn print_tally(k: usize, tally: Tally) {
-    print_text(b"K ");
-    print_number(k as u64);
-    print_text(b": requests within the limit ");
-    print_number(tally.within);
-    print_text(b", plans that the audit says yes to ");
-    print_number(tally.passed);
-    print_text(b", pairs in them ");
-    print_number(tally.pairs);
-    print_text(b", plans of one bank a read where no symbol is read twice ");
-    print_number(tally.systematic);
-    print_text(b", exchanged and said no to ");
-    print_number(tally.denied);
-    print_text(b"; requests of one read more ");
-    print_number(tally.above);
-    print_text(b", refused 12 ");
-    print_number(tally.refused);
-    print_text(b"\n");
+fn print_tally(rt: &impl Print, k: usize, tally: Tally) -> io::Result<()> {
+    print_text(rt, b"K ")?;
+    print_number(rt, k as u64)?;
+    print_text(rt, b": requests within the limit ")?;
+    print_number(rt, tally.within)?;
+    print_text(rt, b", plans that the audit says yes to ")?;
+    print_number(rt, tally.passed)?;
+    print_text(rt, b", pairs in them ")?;
+    print_number(rt, tally.pairs)?;
+    print_text(
+        rt,
+        b", plans of one bank a read where no symbol is read twice ",
+    )?;
+    print_number(rt, tally.systematic)?;
+    print_text(rt, b", exchanged and said no to ")?;
+    print_number(rt, tally.denied)?;
+    print_text(rt, b"; requests of one read more ")?;
+    print_number(rt, tally.above)?;
+    print_text(rt, b", refused 12 ")?;
+    print_number(rt, tally.refused)?;
+    print_text(rt, b"\n")
 }
 
 // A number with one more decimal digit; one that may not fit becomes the largest.
@@ -307,7 +319,7 @@ fn with_byte(line: Line, b: u8) -> Line {
 }
 
 // Shows the request of each line.
-fn show_lines(requests: &[u8]) {
+fn show_lines(rt: &impl Print, requests: &[u8]) -> io::Result<()> {
     let mut line = Line {
         numbers: [0; MOST_SYMBOLS + 1],
         at: 0,
@@ -316,7 +328,7 @@ fn show_lines(requests: &[u8]) {
         let b = requests[i];
         if b == b'\n' {
             let n = line.numbers;
-            show(n[0], [n[1], n[2], n[3], n[4], n[5]]);
+            show(rt, n[0], [n[1], n[2], n[3], n[4], n[5]])?;
             line = Line {
                 numbers: [0; MOST_SYMBOLS + 1],
                 at: 0,
@@ -325,21 +337,37 @@ fn show_lines(requests: &[u8]) {
             line = with_byte(line, b);
         }
     }
+    Ok(())
 }
 
-fn main() {
-    let mut space = io::buffer();
-    let len = io::read_full(STDIN_FILENO, &mut space);
-    show_lines(&space[..len]);
-    run(2, 2, 16);
-    run(3, 4, 216);
-    run(4, 8, 10_000);
-    run(5, 16, 1_889_568);
-    cycles::run(2, 2, 3);
-    cycles::run(3, 4, 7);
-    cycles::run(4, 8, 15);
-    cycles::run(5, 16, 31);
-    refused::run();
-    sets::run();
-    updates::run();
+// Reads until the text is full or the input ends. Gives how many bytes were read.
+fn read_full(reader: &mut impl Read, text: &mut [u8]) -> io::Result<usize>
+    ensures { ReadsAtMost result text.new }
+{
+    let mut len = 0;
+    while len < text.len() {
+        let more = reader.read(&mut text[len..])?;
+        if more == 0 {
+            break;
+        }
+        len += more;
+    }
+    Ok(len)
+}
+
+fn main(rt: HostRuntime) -> io::Result<()> {
+    let mut space = [0u8; MOST_REQUESTS];
+    let len = read_full(&mut rt.reader(), &mut space)?;
+    show_lines(&rt, &space[..len])?;
+    run(&rt, 2, 2, 16)?;
+    run(&rt, 3, 4, 216)?;
+    run(&rt, 4, 8, 10_000)?;
+    run(&rt, 5, 16, 1_889_568)?;
+    cycles::run(&rt, 2, 2, 3)?;
+    cycles::run(&rt, 3, 4, 7)?;
+    cycles::run(&rt, 4, 8, 15)?;
+    cycles::run(&rt, 5, 16, 31)?;
+    refused::run(&rt)?;
+    sets::run(&rt)?;
+    updates::run(&rt)
 }

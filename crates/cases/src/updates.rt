@@ -6,16 +6,18 @@ use crate::cycles::{UNTOUCHED, print_answer, print_hexadecimal, show_read};
 use crate::print_text;
 use crate::sets::print_outcome;
 use memory::State;
+use std::io;
 
 const STORE: usize = 56;
 
-fn show_store(store: [u8; STORE]) {
-    print_text(b"store ");
-    print_hexadecimal(&store);
+fn show_store(rt: &impl Print, store: [u8; STORE]) -> io::Result<()> {
+    print_text(rt, b"store ")?;
+    print_hexadecimal(rt, &store)
 }
 
 // An update in the first `size` bytes of the store: shows the answer, the rows that are full then, as marks, and the store. Gives the store.
 fn show(
+    rt: &impl Print,
     state: State,
     before: [u8; STORE],
     size: usize,
@@ -23,37 +25,38 @@ fn show(
     x: usize,
     i: usize,
     packet: &[u8],
-) -> [u8; STORE]
+) -> io::Result<[u8; STORE]>
     requires { size ≤ 56 }
 {
     let mut store = before;
-    print_outcome(state.update(&mut store[..size], row, x, i, packet));
-    show_store(store);
-    store
+    print_outcome(rt, state.update(&mut store[..size], row, x, i, packet))?;
+    show_store(rt, store)?;
+    Ok(store)
 }
 
 // In row 2, group 2, symbol 3, which are not there, with a packet of one byte: 5 with a broken state, 6 with a store that is a byte short, 7; with row 1: 14;
 // with group 1: 15; with symbol 1: 10, and 10 with a packet of three bytes. With row 1 empty: 15, and with symbol 1: 9.
-fn show_refused(state: State, store: [u8; STORE]) {
+fn show_refused(rt: &impl Print, state: State, store: [u8; STORE]) -> io::Result<()> {
     let shape = state.shape;
     let broken = State { shape, full: 7 };
-    show(broken, store, 55, 2, 2, 3, &[0xff]);
-    show(state, store, 55, 2, 2, 3, &[0xff]);
-    show(state, store, 56, 2, 2, 3, &[0xff]);
-    show(state, store, 56, 1, 2, 3, &[0xff]);
-    show(state, store, 56, 1, 1, 3, &[0xff]);
-    show(state, store, 56, 1, 1, 1, &[0xff]);
-    show(state, store, 56, 1, 1, 1, &[0xff, 0xff, 0xff]);
+    show(rt, broken, store, 55, 2, 2, 3, &[0xff])?;
+    show(rt, state, store, 55, 2, 2, 3, &[0xff])?;
+    show(rt, state, store, 56, 2, 2, 3, &[0xff])?;
+    show(rt, state, store, 56, 1, 2, 3, &[0xff])?;
+    show(rt, state, store, 56, 1, 1, 3, &[0xff])?;
+    show(rt, state, store, 56, 1, 1, 1, &[0xff])?;
+    show(rt, state, store, 56, 1, 1, 1, &[0xff, 0xff, 0xff])?;
     let released = state.release(1);
-    print_answer(released);
-    show(released.state, store, 56, 1, 1, 3, &[0xff]);
-    show(released.state, store, 56, 1, 1, 1, &[0xff]);
+    print_answer(rt, released)?;
+    show(rt, released.state, store, 56, 1, 1, 3, &[0xff])?;
+    show(rt, released.state, store, 56, 1, 1, 1, &[0xff])?;
+    Ok(())
 }
 
 // Symbol 1 of group 1 in row 1, then symbol 2 of group 0 in row 0; and a cycle that reads the first three times and symbol 0 of its group once. Last, symbol 0
 // of group 1 in row 0 of a store of other bytes, with one of bank 1 (at 28) and one of bank 3 (at 37) unlike the rest.
-pub fn run() {
-    print_text(b"updates\n");
+pub fn run(rt: &impl Print) -> io::Result<()> {
+    print_text(rt, b"updates\n")?;
     let mut store = [0u8; STORE];
     let new = State::set_up(3, 2, 2, 2);
     let first = new.state.write(
@@ -71,20 +74,22 @@ pub fn run() {
         ],
     );
     let state = second.state;
-    show_refused(state, store);
-    let one = show(state, store, 56, 1, 1, 1, &[0xab, 0xcd]);
-    let two = show(state, one, 56, 0, 0, 2, &[0x00, 0xff]);
+    show_refused(rt, state, store)?;
+    let one = show(rt, state, store, 56, 1, 1, 1, &[0xab, 0xcd])?;
+    let two = show(rt, state, one, 56, 0, 0, 2, &[0x00, 0xff])?;
     let mut packets = [UNTOUCHED; 8];
     let mut schedule = [UNTOUCHED; 8];
     show_read(
+        rt,
         state,
         &two,
         &[1, 1, 1, 1, 1, 0, 1, 1, 1, 1, 1, 1],
         &mut packets,
         &mut schedule,
-    );
+    )?;
     let mut other = [0x5a; STORE];
     other[28] = 0x11;
     other[37] = 0x22;
-    show(state, other, 56, 0, 1, 0, &[0x0f, 0xf0]);
+    show(rt, state, other, 56, 0, 1, 0, &[0x0f, 0xf0])?;
+    Ok(())
 }

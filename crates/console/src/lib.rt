@@ -1,10 +1,14 @@
 // A session over standard input and output. What a line does and answers is said and proved in `steps`; here each line of a text is read, once and
 // in order, and its answer is written.
+#![tactic(auto)]
+
 ghost use Rattle.std.specs.Prelude.{◌≡◌, length, take};
+ghost use Rattle.std.specs.Io.{ReadsAtMost};
 ghost use Rattle.steps.specs.Session.{most_text, text_done};
 
 use frames::{MOST_OUTPUT, MOST_STORE};
-use libc::{STDIN_FILENO, STDOUT_FILENO};
+use std::io;
+use std::io::Read;
 use steps::{MOST_TEXT, Reply, Session};
 
 // The part of a text that a session reads.
@@ -17,10 +21,22 @@ fn cut(text: &[u8]) -> &[u8]
     &text[..MOST_TEXT]
 }
 
-// Answers each line of a text, from a session and its store on. Gives the session, and how long the whole output is.
-pub fn answer(text: &[u8], begun: Session, store: &mut [u8; MOST_STORE]) -> Reply
-    ensures session { result.session ≡ (text_done begun store.old text.now).session }
-    ensures len { result.len ≡ length (text_done begun store.old text.now).output }
+// Writes a line, unless a write before it failed. Gives the first failure.
+fn write_line(rt: &impl Print, line: &[u8], written: io::Result<()>) -> io::Result<()> {
+    written?;
+    rt.write_all(line)
+}
+
+// Answers each line of a text, from a session and its store on. Gives the session, and how long the whole output is; and whether it was written: after
+// a write that fails the lines are still answered, but nothing more is written.
+pub fn answer(
+    rt: &impl Print,
+    text: &[u8],
+    begun: Session,
+    store: &mut [u8; MOST_STORE],
+) -> (Reply, io::Result<()>)
+    ensures session { result.0.session ≡ (text_done begun store.old text.now).session }
+    ensures len { result.0.len ≡ length (text_done begun store.old text.now).output }
     ensures store { store.new ≡ (text_done begun store.old text.now).store }
 {
     let read = cut(text);
@@ -28,22 +44,39 @@ pub fn answer(text: &[u8], begun: Session, store: &mut [u8; MOST_STORE]) -> Repl
     let mut session = begun;
     let mut len = 0;
     let mut at = 0;
+    let mut written = Ok(());
     while at < read.len() {
         let next = steps::answer_next(read, at, session, store, &mut out);
         let reply = next.reply;
         let line = reply.len;
-        io::write_all(STDOUT_FILENO, &out[..line]);
+        written = write_line(rt, &out[..line], written);
         session = reply.session;
         len += line;
         at = next.at;
     }
-    Reply { session, len }
+    (Reply { session, len }, written)
+}
+
+// Reads until the text is full or the input ends. Gives how many bytes were read.
+fn read_full(reader: &mut impl Read, text: &mut [u8]) -> io::Result<usize>
+    ensures { ReadsAtMost result text.new }
+{
+    let mut len = 0;
+    while len < text.len() {
+        let more = reader.read(&mut text[len..])?;
+        if more == 0 {
+            break;
+        }
+        len += more;
+    }
+    Ok(len)
 }
 
 // Answers what standard input has.
-pub fn run() {
+pub fn run(rt: &(impl Input + Print)) -> io::Result<()> {
     let mut text = [0u8; MOST_TEXT];
     let mut store = [0u8; MOST_STORE];
-    let len = io::read_full(STDIN_FILENO, &mut text);
-    answer(&text[..len], Session::Fresh, &mut store);
+    let len = read_full(&mut rt.reader(), &mut text)?;
+    let (_, written) = answer(rt, &text[..len], Session::Fresh, &mut store);
+    written
 }

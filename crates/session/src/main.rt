@@ -1,4 +1,8 @@
 // Runs a session file: reads hexadecimal frames from standard input, one a line, and answers each with a line.
-fn main() {
-    console::run();
+#![tactic(auto)]
+
+use std::io;
+
+fn main(rt: HostRuntime) -> io::Result<()> {
+    console::run(&rt)
 }
