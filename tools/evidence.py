@@ -1,9 +1,11 @@
 #!/usr/bin/env python3
 """Holds the documents to the tree: every link leads somewhere, every edit in a must-fail/ is named in docs/EVIDENCE.md and every edit named there is one, the
-line counts of docs/LIMIT.md are right, and its picture is drawn from what the program `example` prints. After the gate has run, the first lines of refusals
-that EVIDENCE.md quotes are compared with the gate's own. Prints what does not agree, and how many that is.
+line counts of docs/LIMIT.md are right, and its picture is drawn from what the program `example` prints. With what a gate (`rt ci`) printed, in the file LOG,
+the first lines of refusals that EVIDENCE.md quotes are compared with the gate's own; without it that part is left out. Prints what does not agree, and how
+many that is; or, with --refusals, the rows of EVIDENCE.md that quote a refusal, as they have to be by LOG.
 
-    python3 tools/evidence.py
+    python3 tools/evidence.py [LOG]
+    python3 tools/evidence.py --refusals LOG
 """
 import os
 import re
@@ -69,26 +71,39 @@ def picture():
         yield "docs/limit.svg is not what tools/picture.py draws from crates/example/stdout"
 
 
-def first_error(edit):
-    """The first line of the refusal, as the gate's last run left it, or nothing if it left none."""
-    log = os.path.join(ROOT, "target/must-fail", edit, ".log")
-    if not os.path.exists(log):
-        return None
+def first_errors(log):
+    """The first line of the refusal of each edit, as a gate printed it, cut after 160 characters."""
     with open(log, encoding="utf-8") as file:
-        line = next((x for x in file if re.match(r"\S+: error", x)), "")
-    return line.strip().replace(os.path.join(ROOT, "target/must-fail", edit) + "/", "")
+        told = re.findall(r"^rt: must-fail (\S+)\.edit: refused, as it must be(?: \(.*?\))?: ((?:\./)?(.*))$", file.read(), re.M)
+    return {edit: line + "…" * (len(whole) == 160) for edit, whole, line in told}
 
 
-def refusals():
-    """Rows of EVIDENCE that end in an edit and the start of its refusal, each between backticks."""
-    for edit, quoted in re.findall(r"`([a-z_]+/[a-z0-9_]+)` \| ``(.*?)…?`` \|$", read("docs/EVIDENCE.md"), re.M):
-        line = first_error(edit)
-        if line is not None and not line.startswith(quoted.strip()):
-            yield f"EVIDENCE.md: {edit} is refused with: {line[:200]}"
+def quotes():
+    """Rows of EVIDENCE that end in an edit and the start of its refusal: what stands before the refusal, the edit and the refusal."""
+    return re.findall(r"^(.*`([a-z_]+/[a-z0-9_]+)` \| )``(.*?) ?`` \|$", read("docs/EVIDENCE.md"), re.M)
+
+
+def refusals(errors):
+    for _, edit, quoted in quotes():
+        if edit not in errors:
+            yield f"the log has no refusal of {edit}"
+        elif not errors[edit].startswith(quoted.rstrip("…")):
+            yield f"EVIDENCE.md: {edit} is refused with: {errors[edit]}"
+
+
+def rows(errors):
+    for before, edit, quoted in quotes():
+        line = errors.get(edit, quoted)
+        yield f"{before}``{line}{' ' * line.endswith('`')}`` |"
 
 
 def main():
-    wrong = [w for d in DOCUMENTS for w in links(d)] + list(edits_named()) + list(line_counts()) + list(picture()) + list(refusals())
+    errors = first_errors(sys.argv[-1]) if len(sys.argv) > 1 else None
+    if "--refusals" in sys.argv:
+        print("\n".join(rows(errors)))
+        return
+    wrong = [w for d in DOCUMENTS for w in links(d)] + list(edits_named()) + list(line_counts()) + list(picture())
+    wrong += refusals(errors) if errors is not None else []
     print("\n".join(wrong + [f"{len(wrong)} wrong"]))
 
 

@@ -4,15 +4,14 @@ innermost loops that work on 16 bytes at a time, and the calls.
 
     python3 tools/loops.py
 
-Needs rt and objdump, on x86-64. It works in a scratch directory: a copy of the crates with exported functions added to `memory`.
+Needs rt and objdump, on x86-64. It works in a scratch directory: a copy of the crates, and a static library over `memory` with the exported functions.
 """
 import pathlib
 import re
-import shutil
 import subprocess
 import tempfile
 
-ROOT = pathlib.Path(__file__).parent.parent
+from exported import build
 
 STATE = "k: usize, m: usize, p: usize, g: usize, full: u64"
 OPERATIONS = {
@@ -20,8 +19,12 @@ OPERATIONS = {
     "update": ("store: &mut [u8], row: usize, group: usize, symbol: usize, packet: &[u8]", "update(store, row, group, symbol, packet)"),
     "read_cycle": ("store: &[u8], reads: &[u8], out: &mut [u8], schedule: &mut [u8]", "read_cycle(store, reads, out, schedule)"),
 }
+USES = """
+use layout::Shape;
+use memory::{Answer, State};
+"""
 EXPORT = """
-#[no_mangle]
+#[unsafe(no_mangle)]
 pub extern "C" fn exported_{name}({state}, {parameters}) -> usize {{
     let shape = Shape {{ k, m, p, g }};
     let state = State {{ shape, full }};
@@ -43,13 +46,16 @@ def instructions(listing, function):
     return [(int(at, 16), name, rest) for at, name, rest in re.findall(r"^ *([0-9a-f]+):\t(\S+) *(.*)$", body, re.M)]
 
 
-# The innermost loops: from the target of a jump backwards to the jump, with no other such part in it.
+# The innermost loops: from the target of a jump backwards to the jump, with no other such part in it. One with a `ret` in it is no loop: the jump goes to
+# the function's end, which may stand before it.
 def loops(code):
     parts = []
     for at, name, rest in code:
         target = re.match(r"([0-9a-f]+) <", rest)
         if name.startswith("j") and target and int(target[1], 16) <= at:
             parts.append((int(target[1], 16), at))
+    ends = [at for at, name, _ in code if name == "ret"]
+    parts = [part for part in parts if not any(part[0] <= at <= part[1] for at in ends)]
     return [part for part in parts if not any(other != part and part[0] <= other[0] and other[1] <= part[1] for other in parts)]
 
 
@@ -63,15 +69,9 @@ def describe(code, part):
 
 
 def main():
+    exports = [EXPORT.format(name=name, state=STATE, parameters=parameters, call=call) for name, (parameters, call) in OPERATIONS.items()]
     with tempfile.TemporaryDirectory() as scratch:
-        work = pathlib.Path(scratch)
-        shutil.copy(ROOT / "crates.txt", work)
-        shutil.copytree(ROOT / "crates", work / "crates")
-        with (work / "crates" / "memory" / "src" / "lib.rt").open("a", encoding="utf-8") as source:
-            for name, (parameters, call) in OPERATIONS.items():
-                source.write(EXPORT.format(name=name, state=STATE, parameters=parameters, call=call))
-        subprocess.run(["rt", "staticlib", "memory"], cwd=work, check=True, stdout=subprocess.DEVNULL)
-        archive = work / "target" / "staticlib" / "libmemory.a"
+        archive = build(pathlib.Path(scratch), "memory", USES + "".join(exports))
         listing = subprocess.run(["objdump", "-d", "--no-show-raw-insn", archive], check=True, capture_output=True, text=True).stdout
     for name in OPERATIONS:
         code = instructions(listing, f"exported_{name}")

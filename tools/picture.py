@@ -1,7 +1,7 @@
 #!/usr/bin/env python3
 """Draws a read cycle of one group, from what the program `example` prints:
 
-    target/bin/example | python3 tools/picture.py > docs/limit.svg
+    (cd crates/example && rt run) | python3 tools/picture.py > docs/limit.svg
 
 A column for each bank, a row for each read, a dot where the read opens the bank. Banks of odd degree are dark."""
 

@@ -5,18 +5,20 @@ the limit.
 
     python3 tools/plan_speed.py
 
-Needs rt and rustc. It works in a scratch directory: a copy of the crates with exported functions added to `plan`.
+Needs rt and rustc. It works in a scratch directory: a copy of the crates, and a static library over `plan` with the exported functions.
 """
 import pathlib
 import re
-import shutil
 import subprocess
 import tempfile
 
-ROOT = pathlib.Path(__file__).parent.parent
+from exported import ROOT, build
 
 EXPORTS = """
-#[no_mangle]
+use plan::plan_group;
+use simplex::MOST_PAIRS;
+
+#[unsafe(no_mangle)]
 pub extern "C" fn proved_pair(k: usize, a: usize, b: usize, c: usize, d: usize, e: usize, n: usize) -> usize {
     let planned = plan_group(k, [a, b, c, d, e]);
     let plan = planned.plan;
@@ -29,7 +31,7 @@ pub extern "C" fn proved_pair(k: usize, a: usize, b: usize, c: usize, d: usize, 
     }
 }
 
-#[no_mangle]
+#[unsafe(no_mangle)]
 pub extern "C" fn proved_plan(k: usize, a: usize, b: usize, c: usize, d: usize, e: usize) -> usize {
     let planned = plan_group(k, [a, b, c, d, e]);
     let plan = planned.plan;
@@ -38,7 +40,7 @@ pub extern "C" fn proved_plan(k: usize, a: usize, b: usize, c: usize, d: usize, 
     (first[0] % 64) as usize * 64 + (second[15] % 64) as usize
 }
 
-#[no_mangle]
+#[unsafe(no_mangle)]
 pub extern "C" fn proved_read(out: &mut [u8], store: &[u8], a: usize, b: usize, p: usize) {
     if out.len() < p {
         return;
@@ -59,7 +61,7 @@ pub extern "C" fn proved_read(out: &mut [u8], store: &[u8], a: usize, b: usize, 
 BENCH = r"""
 use std::{hint::black_box, time::Instant};
 
-#[link(name = "plan", kind = "static")]
+#[link(name = "plan_c", kind = "static")]
 extern "C" {
     fn proved_pair(k: usize, a: usize, b: usize, c: usize, d: usize, e: usize, n: usize) -> usize;
     fn proved_plan(k: usize, a: usize, b: usize, c: usize, d: usize, e: usize) -> usize;
@@ -218,13 +220,9 @@ def main():
     words = ",".join(re.findall(r"0x[0-9a-f]{16}", rows))
     with tempfile.TemporaryDirectory() as scratch:
         work = pathlib.Path(scratch)
-        shutil.copy(ROOT / "crates.txt", work)
-        shutil.copytree(ROOT / "crates", work / "crates")
-        with (work / "crates" / "plan" / "src" / "lib.rt").open("a", encoding="utf-8") as source:
-            source.write(EXPORTS)
+        archive = build(work, "plan", EXPORTS)
         (work / "bench.rs").write_text(BENCH.replace("@TRIE@", trie).replace("@ROWS@", words))
-        subprocess.run(["rt", "staticlib", "plan"], cwd=work, check=True, stdout=subprocess.DEVNULL)
-        subprocess.run(["rustc", "-O", "bench.rs", "-L", "target/staticlib", "-o", "bench"], cwd=work, check=True)
+        subprocess.run(["rustc", "-O", "bench.rs", "-L", archive.parent, "-o", "bench"], cwd=work, check=True)
         subprocess.run(["./bench"], cwd=work, check=True)
 
 

@@ -7,6 +7,7 @@ A row is a plan for one sorted request: falling counts that total 2^(K-1). The r
 every run writes the same files. Nothing rests on the search: whatever stands in the files, the prover tests every row and that none is missing.
 """
 import pathlib
+import textwrap
 
 LEAST_SYMBOLS, MOST_SYMBOLS = 2, 5
 BLOCK = 16  # rows of a block
@@ -160,7 +161,8 @@ def main():
         "// The rows of a block.\n"
         f"pub const BLOCK: usize = {BLOCK};\n\n"
         "// Where the row of a request is: by the walk of specs/Table.antt.\n"
-        f"pub const TRIE: [u8; {len(entries)}] = [\n" + "".join(f"    {e},\n" for e in entries) + "];\n\n"
+        f"pub const TRIE: [u8; {len(entries)}] = [\n"
+        + textwrap.fill(", ".join(map(str, entries)) + ",", 99, initial_indent="    ", subsequent_indent="    ") + "\n];\n\n"
         "// The rows, in blocks: each with the K and the counts that it is for.\n" + blocks +
         "// Rows n * BLOCK and on. A match, because a constant array would be stored anew at each use.\n"
         "pub fn block(n: usize) -> [u64; BLOCK]\n"
