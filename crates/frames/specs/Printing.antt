@@ -12,7 +12,7 @@ Fits Served = Unit {0}
 Fits (Refused number place) = place < 65536
 
 -- These bytes are printed at the front of an output, which has room for them: the length of the line, and what the output then holds.
-pub record Prints (bytes out : List ℕ) (n : ℕ) (outAfter : List ℕ) : Type 0 where
+pub record Prints (bytes out : List ℕ) (n : ℕ) (out_after : List ℕ) : Type 0 where
   pub len : n ≡ length (printed bytes)
   pub room : length (printed bytes) ≤ length out
-  pub output : outAfter ≡ put out 0 (printed bytes)
+  pub output : out_after ≡ put out 0 (printed bytes)

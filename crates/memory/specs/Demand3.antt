@@ -48,8 +48,8 @@ pub record TooMany (sh : Shape) (reads : List ℕ) (x : ℕ) : Type 0 where
 -- packet; and no bank is opened twice.
 -- limit: of a group with more than 2^(K-1) reads, whichever disjoint bank sets of any size they are given, some set fails its read.
 -- refused: so it is with the group at the place that 12 gives, and that is the lowest with too many.
-pub record Demand3 (st : State) (s reads : List ℕ) (outSize scheduleSize : ℕ) (answer : Answer) (out schedule : List ℕ) : Type 0 where
-  pub exactly : RightForm st (length s) reads outSize scheduleSize → NamedRowsFull st reads
+pub record Demand3 (st : State) (s reads : List ℕ) (out_size schedule_size : ℕ) (answer : Answer) (out schedule : List ℕ) : Type 0 where
+  pub exactly : RightForm st (length s) reads out_size schedule_size → NamedRowsFull st reads
       → ServedCycle st s reads answer out schedule ↔ NoneTooMany st.shape reads
   pub served : answer ≡ Served → ServedCycle st s reads answer out schedule
   pub yields : answer ≡ Served → (n : ℕ) → n < read_count reads → Yields st.shape.k st.shape.p (opened (line schedule n)) (symbol reads n)
