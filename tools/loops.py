@@ -28,12 +28,10 @@ EXPORT = """
 pub extern "C" fn exported_{name}({state}, {parameters}) -> usize {{
     let shape = Shape {{ k, m, p, g }};
     let state = State {{ shape, full }};
-    let outcome = state.{call};
-    let answer = outcome.answer;
-    match answer {{
-        Answer::FullRows(rows) => rows,
-        Answer::Served => 100,
-        Answer::Refused(_, _) => 200,
+    match state.{call}.answer {{
+        Ok(Answer::FullRows(rows)) => rows,
+        Ok(Answer::Served) => 100,
+        Err(_) => 200,
     }}
 }}
 """

@@ -20,8 +20,9 @@ use simplex::MOST_PAIRS;
 
 #[unsafe(no_mangle)]
 pub extern "C" fn proved_pair(k: usize, a: usize, b: usize, c: usize, d: usize, e: usize, n: usize) -> usize {
-    let planned = plan_group(k, [a, b, c, d, e]);
-    let plan = planned.plan;
+    let Ok(plan) = plan_group(k, [a, b, c, d, e]) else {
+        return 0;
+    };
     let first = plan.first;
     let second = plan.second;
     if n < MOST_PAIRS {
@@ -33,8 +34,9 @@ pub extern "C" fn proved_pair(k: usize, a: usize, b: usize, c: usize, d: usize, 
 
 #[unsafe(no_mangle)]
 pub extern "C" fn proved_plan(k: usize, a: usize, b: usize, c: usize, d: usize, e: usize) -> usize {
-    let planned = plan_group(k, [a, b, c, d, e]);
-    let plan = planned.plan;
+    let Ok(plan) = plan_group(k, [a, b, c, d, e]) else {
+        return 0;
+    };
     let first = plan.first;
     let second = plan.second;
     (first[0] % 64) as usize * 64 + (second[15] % 64) as usize

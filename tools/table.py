@@ -10,7 +10,7 @@ import pathlib
 import textwrap
 
 LEAST_SYMBOLS, MOST_SYMBOLS = 2, 5
-BLOCK = 16  # rows of a block
+BLOCK = 16  # rows of a block of the definition, whose last one is filled up
 CHANCE = {1: 1701240189117242, 2: 321322766291006, 3: 60690031188646, 4: 11462866226986}  # of a step that makes it so much worse, in 2^53
 DIGIT_BITS = MOST_SYMBOLS - 1  # bits of a read in a row: the second bank without the bit of its own symbol
 
@@ -141,34 +141,20 @@ def main():
     rows, index = table()
     entries = trie(index)
     notes = [f"K = {K}: {' '.join(map(str, counts))}" for K, counts in index]
-    while len(rows) % BLOCK:
-        rows.append(0)
-        notes.append("unused")
     words = [f"0x{w:016x}" for w in rows]
-    starts = range(0, len(rows), BLOCK)
+    stored = "".join(f"    {w}, // {note}\n" for w, note in zip(words, notes))
+    words += [f"0x{0:016x}"] * (-len(words) % BLOCK)
+    starts = range(0, len(words), BLOCK)
     crate = pathlib.Path(__file__).parent.parent / "crates" / "table"
 
-    blocks = arms = ""
-    for n, at in enumerate(starts):
-        blocks += f"const BLOCK_{n}: [u64; BLOCK] = [\n"
-        blocks += "".join(f"    {w}, // {note}\n" for w, note in zip(words[at:at + BLOCK], notes[at:at + BLOCK]))
-        blocks += "];\n\n"
-        arms += f"        {'_' if at == starts[-1] else n} => BLOCK_{n},\n"
     (crate / "src" / "rows.rt").write_text(
         "// The stored rows and their trie. Written by tools/table.py; nothing rests on how they were found.\n"
-        "ghost use Rattle.std.specs.Prelude.{◌≡◌, [], ◌<◌, length, get_or};\n"
-        "ghost use Rattle.table.specs.Rows.{blocks};\n\n"
-        "// The rows of a block.\n"
-        f"pub const BLOCK: usize = {BLOCK};\n\n"
+        "// Statics, because a constant array would be stored anew at each use.\n\n"
         "// Where the row of a request is: by the walk of specs/Table.antt.\n"
-        f"pub const TRIE: [u8; {len(entries)}] = [\n"
+        f"pub static TRIE: [u8; {len(entries)}] = [\n"
         + textwrap.fill(", ".join(map(str, entries)) + ",", 99, initial_indent="    ", subsequent_indent="    ") + "\n];\n\n"
-        "// The rows, in blocks: each with the K and the counts that it is for.\n" + blocks +
-        "// Rows n * BLOCK and on. A match, because a constant array would be stored anew at each use.\n"
-        "pub fn block(n: usize) -> [u64; BLOCK]\n"
-        "    requires { n < length blocks }\n"
-        "    ensures { result ≡ get_or blocks n [] }\n"
-        "{\n    match n {\n" + arms + "    }\n}\n", encoding="utf-8")
+        "// The rows: each with the K and the counts that it is for.\n"
+        f"pub static ROWS: [u64; {len(rows)}] = [\n" + stored + "];\n", encoding="utf-8")
     (crate / "specs" / "Rows.antt").write_text(
         "-- The stored rows and their trie. Written by tools/table.py; nothing rests on how they were found.\n"
         "use Rattle.std.specs.Prelude.{List, [], ◌∷◌, ℕ}\n\n"

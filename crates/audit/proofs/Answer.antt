@@ -1,24 +1,22 @@
 -- The audit's answer, from what its parts say.
 use mathlib.Core.Path.{◌≡◌, refl, sym, ap, ◌∙◌}
-use mathlib.Core.Logic.{◌↔◌}
+use mathlib.Core.Logic.{◌≢◌, ◌↔◌, ⊎_elim}
 use mathlib.Core.Bool.{Bool, true, false, ◌&&◌, and-false, false≢true}
 use mathlib.Core.List.{List, [], ◌∷◌}
 use Prim.Native.Nat.{ℕ, ◌+◌, ◌/◌, ◌%◌, ◌≤◌, ◌<◌}
 use native.Mathlib.Omega.{arith}
 use borrow.Author.Tests.{leb-true, leb-false, eq-eqb, ne_eqb, eqb-true}
-use lib.Dec.{eqb}
+use lib.Dec.{eqb, leb}
 use lib.ListN.{length, get_or}
-use Rattle.refusals.specs.declared.Verdict.{Verdict}
-use Rattle.refusals.specs.declared.Verdict.TheVariants.{Accepted, Refused}
-use Rattle.refusals.specs.Verdict.{between}
+use Rattle.std.specs.Prelude.{cond, ◌-◌, Option, Ok, Err, Some, None}
+use Rattle.std.specs.Option.{option_eq}
+use Rattle.std.proofs.lemmas.Bool.Decides.{eqb_tells}
+use Rattle.refusals.specs.Verdict.{Verdict, Accepted, between, answer_by}
 use Rattle.refusals.proofs.Verdicts.{checks, both, between_words, words_between}
 use Rattle.simplex.specs.Shape.{least_symbols, most_symbols, SymbolsInRange, limit_of}
 use Rattle.simplex.specs.Limit.{total}
-use Rattle.audit.specs.declared.Rest.{Rest}
-use Rattle.audit.specs.declared.Audited.{Audited}
-use Rattle.audit.specs.declared.Audited.TheVariants.{Yes, No, Refused as NotAudited}
 use Rattle.audit.specs.Plan.{Pair, is_plan}
-use Rattle.audit.specs.Audit.{counts_refusal, pairs_of, rest_of, answer, audit_of, RequestOf, pair_bytes, PlanIn}
+use Rattle.audit.specs.Audit.{counts_refusal, pairs_of, rest_of, Yes, No, audit_of, RequestOf, pair_bytes, PlanIn}
 use Rattle.audit.proofs.Reading.{sound, complete}
 use Rattle.audit.proofs.Served.{limit}
 use Rattle.audit.proofs.Requests.{all_zero_lem, zero_all}
@@ -36,10 +34,6 @@ module _ (K : ℕ) (counts : List ℕ) (e : counts_refusal K counts ≡ Accepted
   beyond_zero = all_zero_lem K counts (search checks)
 
 module _ (K : ℕ) (counts bytes : List ℕ) where
-  pub refused : (number place : ℕ) → counts_refusal K counts ≡ Refused number place → NotAudited number place ≡ audit_of K counts bytes
-  unfolding audit_of
-  refused number place e = rw e
-
   module _ (e : counts_refusal K counts ≡ Accepted) where
     pub odd : (length bytes % 2 ≡ 0 → ⊥) → No ≡ audit_of K counts bytes
     unfolding audit_of
@@ -49,31 +43,43 @@ module _ (K : ℕ) (counts bytes : List ℕ) where
     unfolding audit_of
     not_just h = simp (e, not_as_many K counts bytes h, and-false)
 
-    pub even : length bytes % 2 ≡ 0 → (t : Bool) → t ≡ is_plan K counts (pairs_of bytes) → answer Accepted t ≡ audit_of K counts bytes
+    pub even : length bytes % 2 ≡ 0 → (t : Bool) → t ≡ is_plan K counts (pairs_of bytes) → Ok t ≡ audit_of K counts bytes
     unfolding audit_of
-    even h t p = rw (e, eq-eqb (length bytes % 2) 0 h) (ap (answer Accepted) p)
+    even h t p = rw (e, eq-eqb (length bytes % 2) 0 h) (ap (λ (x : Bool). answer_by x Accepted) p)
 
--- what the counts leave of a room
-module _ (room : ℕ) (counts : List ℕ) (r : Rest) (e : r ≡ rest_of room counts) where
-  pub within : r.fits ≡ true → room ≡ total counts + r.left
-  within f =
-      let fits = leb-true (total counts) room (sym (ap (λ (x : Rest). x.fits) e) ∙ f) in
-      omega (arith, ap (λ (x : Rest). x.left) e)
+-- what the counts leave of a room, by whether they fit in it
+module _ (room sum : ℕ) where
+  left_is : (fits : Bool) (left : ℕ) → leb sum room ≡ fits → Some left ≡ cond fits (Some (room - sum)) None → room ≡ sum + left
+  left_is true left f e = let fits = leb-true sum room f in let n : left ≡ room - sum = cc in omega arith
+  left_is false left f e = cc
 
-  pub past : r.fits ≡ false → room < total counts
-  past f = leb-false (total counts) room (sym (ap (λ (x : Rest). x.fits) e) ∙ f)
+  none_is : (fits : Bool) → leb sum room ≡ fits → None ≡ cond fits (Some (room - sum)) None → room < sum
+  none_is true f e = cc
+  none_is false f e = leb-false sum room f
+
+  zero_is : (fits : Bool) → leb sum room ≡ fits → option_eq eqb (cond fits (Some (room - sum)) None) (Some 0) ≡ eqb room sum
+  zero_is true f =
+      let fits = leb-true sum room f in
+      ⊎_elim (λ (w : (eqb room sum ≡ true) × (room ≡ sum)). rw (w.0, eq-eqb (room - sum) 0 (omega arith)))
+      (λ (w : (eqb room sum ≡ false) × (room ≢ sum)). rw (w.0, ne_eqb (room - sum) 0 (λ z. w.1 (omega arith)))) (eqb_tells room sum)
+  zero_is false f = let less = leb-false sum room f in rw (ne_eqb room sum (λ e. omega arith))
+
+module _ (room : ℕ) (counts : List ℕ) where
+  pub within : (left : ℕ) → Some left ≡ rest_of room counts → room ≡ total counts + left
+  within left e = left_is room (total counts) (leb (total counts) room) left refl e
+
+  pub past : None ≡ rest_of room counts → room < total counts
+  past e = none_is room (total counts) (leb (total counts) room) refl e
+
+  -- whether they leave just nothing
+  pub just : (r : Option ℕ) → r ≡ rest_of room counts → option_eq eqb r (Some 0) ≡ eqb room (total counts)
+  just r e = ap (λ (x : Option ℕ). option_eq eqb x (Some 0)) e ∙ zero_is room (total counts) (leb (total counts) room) refl
 
 -- ---- yes
 
-abbrev is_yes : Audited → Bool
-is_yes Yes = true
-is_yes No = false
-is_yes (NotAudited number place) = false
-
-yes_parts : (v : Verdict) (t : Bool) → answer v t ≡ Yes → (v ≡ Accepted) × (t ≡ true)
-yes_parts Accepted true e = (refl, refl)
-yes_parts Accepted false e = absurd (false≢true (ap is_yes e))
-yes_parts (Refused number place) t e = absurd (false≢true (ap is_yes e))
+yes_parts : (v : Verdict) (t : Bool) → answer_by t v ≡ Yes → (v ≡ Accepted) × (t ≡ true)
+yes_parts Accepted t e = (refl, cc)
+yes_parts (Err refusal) t e = cc
 
 module _ (K : ℕ) (counts : List ℕ) where
   pub request : length counts ≡ most_symbols → counts_refusal K counts ≡ Accepted → RequestOf K counts

@@ -2,7 +2,7 @@
 use mathlib.Core.Path.{◌≡◌, refl, sym, ap, ap₂, ◌∙◌}
 use mathlib.Core.Bool.{Bool, true, false, not, ◌&&◌, and-true, and-false}
 use mathlib.Core.List.{List, [], ◌∷◌, ◌++◌}
-use Prim.Native.Nat.{ℕ, zero, suc, ◌*◌, ◌/◌, ◌≤◌, ◌<◌}
+use Prim.Native.Nat.{ℕ, zero, suc, ◌+◌, ◌-◌, ◌*◌, ◌/◌, ◌≤◌, ◌<◌}
 use native.Mathlib.Omega.{arith}
 use borrow.Author.Tests.{ne_eqb}
 use lib.ListN.{length, get_or, drop, drop_of_length-le}
@@ -136,3 +136,12 @@ module _ {K : ℕ} {counts bytes : List ℕ} {m n used i : ℕ} (t : Turn K coun
       → From K counts bytes m (bank_toggled (bank_toggled used (pair_in bytes m).b) (pair_in bytes m).a)
   one_more e ha hb =
       rw (reads_at, pairs_at) (more K i (pair_in bytes m) (drop n (reads_of counts)) (drop n (pairs_of bytes)) used t.walked e ha hb)
+
+-- a turn, from what the loop knows of it
+pub turn_of : {K : ℕ} {counts bytes : List ℕ} {n used i : ℕ} → 1 ≤ n → n ≤ total counts → length bytes ≡ total counts * 2
+    → i ≡ get_or (reads_of counts) (n - 1) 0 → From K counts bytes n used → Turn K counts bytes (n - 1) n used i
+turn_of l w e s f = record { next = omega arith; within = w; even = e; symbol = s; walked = f }
+
+-- the pair of a turn, by its two bytes
+pub pair_read : (bytes : List ℕ) (m a b : ℕ) → a ≡ get_or bytes (m * 2) 0 → b ≡ get_or bytes (m * 2 + 1) 0 → record { a = a; b = b } ≡ pair_in bytes m
+pair_read bytes m a b e f = λ j. record { a = e j; b = f j }

@@ -2,9 +2,8 @@
 use Rattle.std.specs.Prelude.{◌≡◌, ◌↔◌, true, false, List, map, ℕ, ◌≤◌, ◌<◌, length}
 use Rattle.simplex.specs.Shape.{most_symbols, most_pairs, limit_of}
 use Rattle.simplex.specs.Limit.{total, reads_of, ServedBy}
-use Rattle.audit.specs.declared.Audited.TheVariants.{Yes}
 use Rattle.audit.specs.Plan.{Pair, opened, is_plan, IsPlan}
-use Rattle.audit.specs.Audit.{audit_of, PlanIn}
+use Rattle.audit.specs.Audit.{Yes, audit_of, PlanIn}
 
 -- words: the test passes exactly the lists of pairs that are a plan in words.
 -- yes: an audit of five counts says yes exactly if they are a request, and the bytes are an even count and a plan for it.

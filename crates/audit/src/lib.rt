@@ -5,68 +5,46 @@ ghost use Rattle.std.specs.Prelude.{◌≡◌, ◌*◌, ◌<◌, length, get_or}
 ghost use Rattle.simplex.specs.Shape.{SymbolsInRange, most_symbols};
 ghost use Rattle.simplex.specs.Limit.{total, reads_of};
 ghost use Rattle.audit.specs.Plan.{serves, is_plan};
-ghost use Rattle.audit.specs.Audit.{counts_refusal, rest_of, pairs_of, audit_of};
+ghost use Rattle.audit.specs.Audit.{all_zero, counts_refusal, rest_of, pairs_of, audit_of};
 ghost use Rattle.audit.specs.Parts.{bank_toggled};
 ghost use Rattle.audit.specs.Laws.{ThePlans};
 
-use refusals::Verdict;
+use refusals::{Reason, Refusal, Verdict, check, is_between};
 use simplex::{LEAST_SYMBOLS, MOST_SYMBOLS};
-
-// What the audit answers: yes, no, or a refusal with its number and place.
-#[derive(Clone, Copy)]
-pub enum Audited {
-    Yes,
-    No,
-    Refused(u8, usize),
-}
-
-// Whether counts total no more than a number, and what they leave of it: nothing where they total more.
-#[derive(Clone, Copy)]
-pub struct Rest {
-    pub fits: bool,
-    pub left: usize,
-}
 
 // Carries the laws of plans. It does nothing.
 pub fn the_plans()
     ensures { ThePlans }
 {}
 
+// Whether every count is 0.
+fn are_zero(counts: &[usize]) -> bool
+    ensures { result ≡ all_zero counts.now }
+{
+    counts.iter().all(|c| *c == 0)
+}
+
 // The refusal of a request vector by its form: 1, then 11.
 pub fn judge_counts(k: usize, counts: [usize; MOST_SYMBOLS]) -> Verdict
     ensures { result ≡ counts_refusal k counts }
 {
-    if !refusals::is_between(LEAST_SYMBOLS, MOST_SYMBOLS, k) {
-        return Verdict::Refused(1, 0);
-    }
-    let mut i = k;
-    while i < MOST_SYMBOLS {
-        if counts[i] != 0 {
-            return Verdict::Refused(11, 0);
-        }
-        i += 1;
-    }
-    Verdict::Accepted
+    check(
+        is_between(LEAST_SYMBOLS, MOST_SYMBOLS, k),
+        Reason::SymbolsOutOfRange,
+        0,
+    )?;
+    check(are_zero(&counts[k..]), Reason::ForeignCount, 0)
 }
 
-// What the counts leave of `room`: they are taken from it one by one, since their sum may be no number of the machine.
-pub fn take_from(room: usize, counts: [usize; MOST_SYMBOLS]) -> Rest
+// What the counts leave of `room`; nothing where they total more. They are taken from it one by one, since their sum may be no number of the machine.
+pub fn take_from(room: usize, counts: [usize; MOST_SYMBOLS]) -> Option<usize>
     ensures { result ≡ rest_of room counts }
 {
     let mut left = room;
-    let mut i = 0;
-    while i < MOST_SYMBOLS {
-        let c = counts[i];
-        if left < c {
-            return Rest {
-                fits: false,
-                left: 0,
-            };
-        }
-        left -= c;
-        i += 1;
+    for c in &counts {
+        left = left.checked_sub(*c)?;
     }
-    Rest { fits: true, left }
+    Some(left)
 }
 
 // The symbol of read n.
@@ -75,17 +53,13 @@ fn symbol_of(counts: [usize; MOST_SYMBOLS], n: usize) -> usize
     ensures { (result ≡ get_or (reads_of counts) n 0) × (result < most_symbols) }
 {
     let mut ahead = n;
-    let mut i = 0;
-    while i < MOST_SYMBOLS {
-        let c = counts[i];
-        if ahead < c {
+    for (i, c) in counts.iter().enumerate() {
+        if ahead < *c {
             return i;
         }
-        ahead -= c;
-        i += 1;
+        ahead -= *c;
     }
-    // Not reached: n is below the total.
-    i
+    unreachable!()
 }
 
 // Whether the pair of banks a and b serves symbol i.
@@ -118,12 +92,10 @@ fn audit_pairs(k: usize, counts: [usize; MOST_SYMBOLS], bytes: &[u8]) -> bool
     requires even { length bytes.now ≡ total counts * 2 }
     ensures { result ≡ is_plan k counts (pairs_of bytes.now) }
 {
-    let mut used: u64 = 0;
-    let mut n = bytes.len() / 2;
-    while 0 < n {
-        n -= 1;
-        let a = bytes[n * 2] as usize;
-        let b = bytes[n * 2 + 1] as usize;
+    let mut used = 0;
+    for n in (0..bytes.len() / 2).rev() {
+        let a = usize::from(bytes[n * 2]);
+        let b = usize::from(bytes[n * 2 + 1]);
         if !serves_symbol(k, symbol_of(counts, n), a, b) {
             return false;
         }
@@ -136,23 +108,13 @@ fn audit_pairs(k: usize, counts: [usize; MOST_SYMBOLS], bytes: &[u8]) -> bool
 }
 
 // Audits a plan in a group of k symbols: refused with 1 or 11, or whether the bytes, two for each pair, are a plan for the counts.
-pub fn audit(k: usize, counts: [usize; MOST_SYMBOLS], bytes: &[u8]) -> Audited
+#[tactic(auto, unfolding(crate::specs::Audit::audit_of))]
+pub fn audit(k: usize, counts: [usize; MOST_SYMBOLS], bytes: &[u8]) -> Result<bool, Refusal>
     ensures { result ≡ audit_of k counts bytes.now }
 {
-    let verdict = judge_counts(k, counts);
-    if let Verdict::Refused(number, place) = verdict {
-        return Audited::Refused(number, place);
+    judge_counts(k, counts)?;
+    if bytes.len() % 2 != 0 || take_from(bytes.len() / 2, counts) != Some(0) {
+        return Ok(false);
     }
-    if bytes.len() % 2 != 0 {
-        return Audited::No;
-    }
-    let rest = take_from(bytes.len() / 2, counts);
-    if !rest.fits || 0 < rest.left {
-        return Audited::No;
-    }
-    if audit_pairs(k, counts, bytes) {
-        Audited::Yes
-    } else {
-        Audited::No
-    }
+    Ok(audit_pairs(k, counts, bytes))
 }

@@ -1,7 +1,8 @@
 -- Laws of the set of what passes a test, and of the first number in a set.
 use mathlib.Core.Path.{◌≡◌, refl, sym, ap, ◌∙◌}
 use mathlib.Core.Bool.{Bool, true, false, ◌&&◌, not, cond, false≢true}
-use mathlib.Core.Logic.{⊎_elim}
+use mathlib.Core.Logic.{◌≢◌, ⊎_elim}
+use Rattle.std.specs.Prelude.{Option, Some, None}
 use Prim.Native.Nat.{ℕ, zero, suc, ◌+◌, ◌-◌, ◌*◌, ◌/◌, ◌%◌, ◌^◌, ◌≤◌, ◌<◌}
 use native.Mathlib.Nat.{div-eq_of_lt, one-mul, zero-mul, pow-suc, eq-or-lt_of_le, le_of_suc-le-suc, div-le_self, div-lt_iff_lt-mul}
 use native.Mathlib.Omega.{arith}
@@ -12,7 +13,7 @@ use lib.Dec.{eqb, ltb}
 use lib.Pow.{pow_pos}
 use Rattle.bits.specs.Bits.{bit}
 use Rattle.bits.specs.Marks.{marked}
-use Rattle.bits.specs.Sets.{set_of, First}
+use Rattle.bits.specs.Sets.{set_of, FirstIs, First}
 use Rattle.bits.proofs.Digits.{digit, low_lt}
 use Rattle.bits.proofs.Bits.{bit_half, bit_zero, bit_below, bit_top, bits_below, same_bits}
 use Rattle.bits.proofs.Marks.{bit_shr, none_marked, marked_none}
@@ -67,12 +68,13 @@ same_set f g zero h = refl
 same_set f g (suc n) h = rw (same_set f g n (λ i l. h i (omega arith)), h n (omega arith))
 
 -- the first in the set is the first that passes
-pub first_passes : (test : ℕ → Bool) (n r : ℕ) → First (marked (set_of test n)) n r → First test n r
-first_passes test n r f = record {
-  most = f.most;
-  before = λ i l. sym (marked_set test n i (omega (arith, f.most))) ∙ f.before i l;
-  itself = λ l. sym (marked_set test n r l) ∙ f.itself l;
+pub first_passes : (test : ℕ → Bool) (n : ℕ) (r : Option ℕ) → First (marked (set_of test n)) n r → First test n r
+first_passes test n (Some r) f = record {
+  below = f.below;
+  before = λ i l. sym (marked_set test n i (omega (arith, f.below))) ∙ f.before i l;
+  itself = sym (marked_set test n r f.below) ∙ f.itself;
 }
+first_passes test n None f = λ i l. sym (marked_set test n i l) ∙ f i l
 
 -- digits with the same mark are the same
 same_digit : (d e : ℕ) → d < 2 → e < 2 → eqb d 1 ≡ eqb e 1 → d ≡ e
@@ -139,7 +141,13 @@ below_set w n h =
         let small : 2 ^ w - 1 < 2 ^ w = omega (arith, pow_pos w) in
         lt_none (2 ^ w - 1) w small (w - n + i) (omega arith)
 
-pub first_set : (k n : ℕ) → First (marked n) k (count_trailing_zeros k n)
+-- the first mark below k is at r; r is k where there is none
+record UpTo (test : ℕ → Bool) (k r : ℕ) : Type 0 where
+  most : r ≤ k
+  before : (i : ℕ) → i < r → test i ≡ false
+  itself : r < k → test r ≡ true
+
+first_set : (k n : ℕ) → UpTo (marked n) k (count_trailing_zeros k n)
 unfolding count_trailing_zeros
 first_set zero n = record { most = omega arith; before = λ i l. absurd (omega arith); itself = λ l. absurd (omega arith) }
 first_set (suc k) n = by (n % 2) refl (count_trailing_zeros k (n / 2)) (first_set k (n / 2))
@@ -150,7 +158,7 @@ first_set (suc k) n = by (n % 2) refl (count_trailing_zeros k (n / 2)) (first_se
     low : (d : ℕ) → n % 2 ≡ d → marked n 0 ≡ eqb d 1
     low d e = let it : bit n 0 ≡ d = omega arith in alike it
 
-    by : (d : ℕ) → n % 2 ≡ d → (t : ℕ) → First (marked (n / 2)) k t → First (marked n) (suc k) (under d t)
+    by : (d : ℕ) → n % 2 ≡ d → (t : ℕ) → UpTo (marked (n / 2)) k t → UpTo (marked n) (suc k) (under d t)
     by zero e t f = record { most = omega (arith, f.most); before = below; itself = λ l. half t ∙ f.itself (omega arith) }
       where
         below : (i : ℕ) → i < suc t → marked n i ≡ false
@@ -158,3 +166,19 @@ first_set (suc k) n = by (n % 2) refl (count_trailing_zeros k (n / 2)) (first_se
         below (suc i) l = half i ∙ f.before i (omega arith)
     by (suc zero) e t f = record { most = omega arith; before = λ i l. absurd (omega arith); itself = λ l. low 1 e }
     by (suc (suc d)) e t f = absurd (omega (arith, low_lt n))
+
+-- what is not 0 has a mark
+pub first_some : (k n : ℕ) → n < 2 ^ k → n ≢ 0 → First (marked n) k (Some (count_trailing_zeros k n))
+first_some k n h ne =
+    let f = first_set k n in
+    let unmarked : (i : ℕ) → marked 0 i ≡ false = λ i. alike (bit_zero i) in
+    let below : count_trailing_zeros k n < k =
+    ⊎_elim
+    (λ (all : count_trailing_zeros k n ≡ k). absurd (ne (only_set (λ _. false) k n h (λ i l. f.before i (omega arith))
+    ∙ sym (only_set (λ _. false) k 0 (pow_pos k) (λ i l. unmarked i)))))
+    (λ (less : count_trailing_zeros k n < k). less)
+    (eq-or-lt_of_le f.most) in
+    record { below = below; before = f.before; itself = f.itself below }
+
+pub first_none : (k : ℕ) → First (marked 0) k None
+first_none k = λ i l. alike (bit_zero i)

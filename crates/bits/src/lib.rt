@@ -50,7 +50,7 @@ pub fn none_from(set: u64, n: usize) -> bool
 pub fn count(set: u64) -> usize
     ensures { result ≡ how_many (marked set) 64 }
 {
-    u64::count_ones(set) as usize
+    set.count_ones() as usize
 }
 
 // The set of the numbers below `n`.
@@ -69,9 +69,12 @@ pub fn without(set: u64, other: u64) -> u64
     set & !other
 }
 
-// The first that is marked; 64 where none is.
-pub fn first(set: u64) -> usize
+// The first that is marked.
+pub fn first(set: u64) -> Option<usize>
     ensures { First (marked set) 64 result }
 {
-    u64::trailing_zeros(set) as usize
+    if set == 0 {
+        return None;
+    }
+    Some(set.trailing_zeros() as usize)
 }

@@ -3,7 +3,7 @@ use mathlib.Core.Path.{◌≡◌, refl, sym, ap, ◌∙◌}
 use mathlib.Core.Logic.{◌≢◌, inl, inr}
 use mathlib.Core.Bool.{Bool, true, false}
 use Prim.Native.Nat.{ℕ, ◌+◌, ◌*◌, ◌/◌, ◌%◌, ◌≤◌, ◌<◌}
-use native.Mathlib.Nat.{add-mul, suc-mul, mul-le-mul_right}
+use native.Mathlib.Nat.{suc-mul, mul-le-mul_right}
 use native.Mathlib.Numerals.{add-one}
 use native.Mathlib.Omega.{arith}
 use borrow.Author.Tests.{ltb-true, ltb-false}
@@ -16,9 +16,6 @@ step_more n step = rw (add-one n, suc-mul n step)
 
 pub step_within : (n t step : ℕ) → n < t → n * step + step ≤ t * step
 step_within n t step h = rw (suc-mul n step) at (mul-le-mul_right step h)
-
-pub step_twice : (t step : ℕ) → (t + t + 1) * step ≡ t * step + t * step + step
-step_twice t step = step_more (t + t) step ∙ ap (λ (x : ℕ). x + step) (add-mul t t step)
 
 -- two digits to the base m
 pub digits_same : (m : ℕ) {q r u t : ℕ} → r < m → t < m → q * m + r ≡ u * m + t → (q ≡ u) × (r ≡ t)

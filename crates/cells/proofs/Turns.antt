@@ -3,12 +3,13 @@ use mathlib.Core.Path.{◌≡◌, refl, sym, ap, ap₂, ◌∙◌}
 use mathlib.Core.Logic.{◌⊎◌, inl, inr, ⊎_elim}
 use mathlib.Core.List.{List, [], ◌∷◌}
 use Prim.Native.Nat.{ℕ, zero, suc, ◌+◌, ◌≤◌, ◌<◌}
-use native.Mathlib.Nat.{not-suc-le-zero, le_of_suc-le-suc, eq-or-lt_of_le, suc-add, zero-add}
+use native.Mathlib.Nat.{not-suc-le-zero, le_of_suc-le-suc, suc-add, zero-add}
 use native.Mathlib.Numerals.{add-one}
 use native.Mathlib.Omega.{arith}
 use lib.Bits.{bit_xor}
 use lib.ListN.{length, get_or, set, take}
-use lib.Seq.{take_all, length-take-le, get_or-set_same, get_or-set_other}
+use lib.Seq.{take_all, length-take-le}
+use Rattle.std.proofs.lemmas.List.Edits.{fill_by_more}
 use Rattle.cells.specs.Cell.{cell, put}
 use Rattle.cells.specs.Xor.{xor_bytes}
 use Rattle.cells.proofs.Xors.{length_xor, get_or_xor}
@@ -37,10 +38,10 @@ put_all s at t i l h e = e ∙ ap (put s at) (take_all i t h)
 pub length_xor_cell : (s : List ℕ) (a p : ℕ) (c : List ℕ) → a + p ≤ length s → length c ≡ p → length (xor_bytes (cell s a p) c) ≡ p
 length_xor_cell s a p c h e = length_xor (cell s a p) c (length_cell s a p h ∙ sym e) ∙ length_cell s a p h
 
-pub byte_xor_cell : (s : List ℕ) (a p : ℕ) (c : List ℕ) (i : ℕ) → i < p → a + p ≤ length s → length c ≡ p
-    → bit_xor (get_or s (a + i) 0) (get_or c i 0) ≡ get_or (xor_bytes (cell s a p) c) i 0
-byte_xor_cell s a p c i l h e =
-    sym (get_or_xor (cell s a p) c i (length_cell s a p h ∙ sym e) ∙ ap (λ (x : ℕ). bit_xor x (get_or c i 0)) (get_or_cell s a p i l))
+pub byte_xor_cell : (s : List ℕ) (a p : ℕ) (c : List ℕ) (i x y : ℕ) → i < p → a + p ≤ length s → length c ≡ p
+    → x ≡ get_or s (a + i) 0 → y ≡ get_or c i 0 → bit_xor x y ≡ get_or (xor_bytes (cell s a p) c) i 0
+byte_xor_cell s a p c i x y l h e u v =
+    ap₂ bit_xor (u ∙ sym (get_or_cell s a p i l)) v ∙ sym (get_or_xor (cell s a p) c i (length_cell s a p h ∙ sym e))
 
 -- a byte of the source cell is not set before it is read: it lies before the cell that is set, or at or past the byte of this turn
 pub not_yet : (s : List ℕ) (at : ℕ) (t : List ℕ) (i : ℕ) (l : List ℕ) (from n : ℕ) → i < n → n ≤ length t → l ≡ put s at (take i t)
@@ -53,8 +54,4 @@ not_yet s at t i l from n h k e out =
 -- one turn of a loop that fills a list from the front with f 0, f 1, ..: one entry more
 pub set_more : (xs : List ℕ) (i x : ℕ) (f : ℕ → ℕ) → i < length xs → x ≡ f i → ((j : ℕ) → j < i → get_or xs j 0 ≡ f j)
     → (j : ℕ) → j < i + 1 → get_or (set xs i x) j 0 ≡ f j
-set_more xs i x f h e g j l =
-    ⊎_elim
-    (λ (q : j ≡ i). rw q (get_or-set_same xs i x 0 h ∙ e))
-    (λ (m : j < i). get_or-set_other xs i j x 0 (λ q. omega arith) ∙ g j m)
-    (eq-or-lt_of_le (omega arith))
+set_more xs i x f h e g = rw e (fill_by_more f xs i 0 h g)

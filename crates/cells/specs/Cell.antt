@@ -1,5 +1,6 @@
 -- Cells. A store is a list of bytes; a cell is what lies at a place of it.
-use Rattle.std.specs.Prelude.{◌⊎◌, List, [], ◌∷◌, ℕ, zero, suc, ◌+◌, ◌*◌, ◌≤◌, ◌<◌, take, drop}
+use Rattle.std.specs.Prelude.{◌≡◌, length, get_or, ◌⊎◌, List, [], ◌∷◌, ℕ, zero, suc, ◌+◌, ◌*◌, ◌≤◌, ◌<◌, take, drop}
+use Rattle.std.specs.Borrow.{Bor}
 
 -- The cell at index `at` of the store s: p bytes, or fewer where the store ends.
 abbrev pub cell : List ℕ → ℕ → ℕ → List ℕ
@@ -16,6 +17,12 @@ put (x ∷ s) zero (y ∷ c) = y ∷ put s zero c
 unfoldable pub put_each : (size : ℕ) → (ℕ → List ℕ) → ℕ → List ℕ → List ℕ
 put_each size f zero s = s
 put_each size f (suc n) s = put (put_each size f n s) (n * size) (f n)
+
+-- c is what becomes of the cell of p bytes at index `at` of the store s where its bytes are set from the first on, each to what `gives` has for the store as it
+-- then is and for the byte's index.
+abbrev pub SetsTo : (gives : Bor (List ℕ) → ℕ → ℕ → Type 0) → (s : List ℕ) (at p : ℕ) → List ℕ → Type 0
+SetsTo gives s at p c = (length c ≡ p)
+    × ((t : Bor (List ℕ)) (i x : ℕ) → i < p → t.now ≡ put s at (take i c) → gives t i x → x ≡ get_or c i 0)
 
 -- Byte i lies outside the cell of p bytes at index `at`.
 abbrev pub Outside : (p at i : ℕ) → Type 0

@@ -3,7 +3,6 @@
 #![tactic(auto)]
 
 ghost use Rattle.std.specs.Prelude.{◌≡◌, length, take};
-ghost use Rattle.std.specs.Io.{ReadsAtMost};
 ghost use Rattle.steps.specs.Session.{most_text, text_done};
 
 use frames::{MOST_OUTPUT, MOST_STORE};
@@ -15,10 +14,7 @@ use steps::{MOST_TEXT, Reply, Session};
 fn cut(text: &[u8]) -> &[u8]
     ensures { result.now ≡ take most_text text.now }
 {
-    if text.len() <= MOST_TEXT {
-        return text;
-    }
-    &text[..MOST_TEXT]
+    &text[..MOST_TEXT.min(text.len())]
 }
 
 // Writes a line, unless a write before it failed. Gives the first failure.
@@ -45,6 +41,7 @@ pub fn answer(
     let mut len = 0;
     let mut at = 0;
     let mut written = Ok(());
+    // Each turn moves on by a line, whose end `answer_next` finds: the position is the reader's, and no count.
     while at < read.len() {
         let next = steps::answer_next(read, at, session, store, &mut out);
         let reply = next.reply;
@@ -57,26 +54,13 @@ pub fn answer(
     (Reply { session, len }, written)
 }
 
-// Reads until the text is full or the input ends. Gives how many bytes were read.
-fn read_full(reader: &mut impl Read, text: &mut [u8]) -> io::Result<usize>
-    ensures { ReadsAtMost result text.new }
-{
-    let mut len = 0;
-    while len < text.len() {
-        let more = reader.read(&mut text[len..])?;
-        if more == 0 {
-            break;
-        }
-        len += more;
-    }
-    Ok(len)
-}
-
 // Answers what standard input has.
 pub fn run(rt: &(impl Input + Print)) -> io::Result<()> {
-    let mut text = [0u8; MOST_TEXT];
-    let mut store = [0u8; MOST_STORE];
-    let len = read_full(&mut rt.reader(), &mut text)?;
-    let (_, written) = answer(rt, &text[..len], Session::Fresh, &mut store);
+    let mut text = [0; MOST_TEXT];
+    let mut store = [0; MOST_STORE];
+    let mut input = rt.reader().take(MOST_TEXT as u64);
+    let len = io::copy(&mut input, &mut &mut text[..])? as usize;
+    // `copy` bounds its count only for a reader whose bytes are known.
+    let (_, written) = answer(rt, &text[..len.min(MOST_TEXT)], None, &mut store);
     written
 }

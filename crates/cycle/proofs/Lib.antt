@@ -1,5 +1,4 @@
 -- The laws that the proofs of this crate, and of those above it, cite.
-pub mod Starts
 pub mod Groups
 pub mod Pairs
 pub mod Serving

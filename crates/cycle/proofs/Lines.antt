@@ -24,18 +24,15 @@ use Rattle.cycle.proofs.Serving.{within}
 
 -- ---- the packet that a pair of banks gives has P bytes
 
-length_zeros : (P : ℕ) → length (zeros P) ≡ P
-length_zeros P = length-replicate P 0
-
 module _ (sh : Shape) (s : List ℕ) (size : length s ≡ store_size sh) (x r : ℕ) (group-in : x < sh.m) (row_in : r < sh.g) where
   in_store : (b : ℕ) → 1 ≤ b → b ≤ banks sh → offset sh x b r + sh.p ≤ length s
   in_store b l u = within sh s size x r group-in row_in b (offset sh x b r) l u refl
 
   length_read : (a b : ℕ) → 1 ≤ a → a ≤ banks sh → b ≤ banks sh → length (xor_of_cells sh s x r (opens a b)) ≡ sh.p
-  length_read a zero l u v = length_xor_cell s (offset sh x a r) sh.p (zeros sh.p) (in_store a l u) (length_zeros sh.p)
+  length_read a zero l u v = length_xor_cell s (offset sh x a r) sh.p (zeros sh.p) (in_store a l u) (length-replicate sh.p 0)
   length_read a (suc b) l u v =
       length_xor_cell s (offset sh x a r) sh.p (xor_bytes (cell_at sh s x (suc b) r) (zeros sh.p)) (in_store a l u)
-      (length_xor_cell s (offset sh x (suc b) r) sh.p (zeros sh.p) (in_store (suc b) (omega arith) v) (length_zeros sh.p))
+      (length_xor_cell s (offset sh x (suc b) r) sh.p (zeros sh.p) (in_store (suc b) (omega arith) v) (length-replicate sh.p 0))
 
 -- ---- the line of each read
 

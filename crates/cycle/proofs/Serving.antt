@@ -1,36 +1,36 @@
--- Laws of serving: room for each read, and what each turn puts out.
+-- Laws of serving: the packet of a read, and what each turn hands out.
 use mathlib.Core.Path.{◌≡◌, refl, sym, ap, ◌∙◌}
+use mathlib.Core.Logic.{◌≢◌}
+use mathlib.Core.Bool.{Bool, true, false}
 use mathlib.Core.List.{List, [], ◌∷◌}
-use Prim.Native.Nat.{ℕ, zero, suc, ◌+◌, ◌*◌, ◌≤◌, ◌<◌}
-use native.Mathlib.Nat.{add-zero, add_assoc}
+use Prim.Native.Nat.{ℕ, zero, suc, ◌+◌, ◌≤◌, ◌<◌}
+use native.Mathlib.Nat.{add-zero}
+use native.Mathlib.Numerals.{add-one}
 use native.Mathlib.Omega.{arith}
+use borrow.Author.Tests.{eqb-true, eqb-false}
+use lib.Dec.{eqb}
 use lib.ListN.{length, get_or, set, take}
-use Rattle.cells.specs.Cell.{put, put_each}
+use Rattle.refusals.proofs.Verdicts.{both}
+use Rattle.cells.specs.Cell.{cell, put}
 use Rattle.cells.specs.Xor.{xor_bytes, zeros}
 use Rattle.cells.proofs.Cells.{put_none, length_cell}
 use Rattle.cells.proofs.Xors.{zeros_right}
 use Rattle.cells.proofs.Turns.{put_more}
-use Rattle.cells.proofs.Steps.{step_within}
-use Rattle.cells.proofs.Each.{length_each}
 use Rattle.simplex.specs.Shape.{most_symbols, most_pairs}
-use Rattle.simplex.specs.Limit.{total}
 use Rattle.audit.specs.Plan.{opens, Serves, start}
+use Rattle.plan.proofs.Storing.{in_column}
 use Rattle.layout.specs.declared.Shape.{Shape}
 use Rattle.layout.specs.Shape.{most_groups, InRange, banks, store_size, offset, cell_at}
 use Rattle.layout.proofs.Places.{inside}
-use Rattle.reads.specs.Reads.{read_count, row, group, symbol, count_of, ordinal, counts_of}
-use Rattle.reads.specs.Parts.{Named, Grid, Few}
-use Rattle.reads.proofs.Grids.{grid_turn}
+use Rattle.reads.specs.Reads.{read_count, row, group, symbol, is_for, count_of, ordinal, counts_of}
+use Rattle.reads.specs.Parts.{Named, Few}
+use Rattle.reads.proofs.Counting.{is_for_lem}
 use Rattle.reads.proofs.Accepted.{few_pairs}
-use Rattle.cycle.specs.declared.Plans.{Plans}
+use Rattle.cycle.specs.declared.Group.{Group}
 use Rattle.cycle.specs.Cycle.{pair_of, xor_of_cells, packet_of, line_of}
-use Rattle.cycle.specs.Parts.{PlansFor}
+use Rattle.cycle.specs.Parts.{GroupAfter, GroupsAfter}
+use Rattle.cycle.proofs.Groups.{groups_set}
 use Rattle.cycle.proofs.Pairs.{pair_place, pair_serves}
-
--- the place of read n, once the parts of those before it are put
-pub room : (size : ℕ) (f : ℕ → List ℕ) (n count at : ℕ) (s now : List ℕ) → n < count → length s ≡ count * size → now ≡ put_each size f n s
-    → at ≡ n * size → at + size ≤ length now
-room size f n count at s now l e same place = omega (arith, step_within n count size l, ap length same, length_each size f n s)
 
 -- ---- the line of a read
 
@@ -47,6 +47,12 @@ module _ (sh : Shape) (s : List ℕ) (size : length s ≡ store_size sh) (x r : 
   pub within : (b at : ℕ) → 1 ≤ b → b ≤ banks sh → at ≡ offset sh x b r → at + sh.p ≤ length s
   within b at first last e = rw (e, size) (inside sh x b r (record { group = group; first = first; last = last; row = row }))
 
+  -- it is found by its place, with the bank's number as it was converted
+  pub cell_there : (b c at : ℕ) → 1 ≤ b → b ≤ banks sh → c ≡ b → at ≡ offset sh x c r → (at + sh.p ≤ length s) × (cell s at sh.p ≡ cell_at sh s x b r)
+  cell_there b c at first last same e =
+      let place : at ≡ offset sh x b r = e ∙ ap (λ (n : ℕ). offset sh x n r) same in
+      (within b at first last place, ap (λ (n : ℕ). cell s n sh.p) place)
+
   alone : (b : ℕ) → 1 ≤ b → b ≤ banks sh → cell_at sh s x b r ≡ xor_of_cells sh s x r (b ∷ [])
   alone b first last =
       sym (ap (λ (n : ℕ). xor_bytes (cell_at sh s x b r) (zeros n)) (sym (length_cell s _ sh.p (within b _ first last refl)))
@@ -62,77 +68,122 @@ module _ (sh : Shape) (s : List ℕ) (size : length s ≡ store_size sh) (x r : 
 
 -- ---- one turn
 
--- for each symbol of each group, where its next pair stands once n reads are served
-abbrev pub NextPairs : List ℕ → ℕ → List ℕ → Type 0
-NextPairs reads n next = Grid (λ x i. x * most_pairs + start (counts_of reads x) i + count_of reads x i n) next
+module _ (reads : List ℕ) (n : ℕ) where
+  count_here : count_of reads (group reads n) (symbol reads n) (n + 1) ≡ count_of reads (group reads n) (symbol reads n) n + 1
+  count_here = rw (add-one n, is_for_lem reads (group reads n) (symbol reads n) n refl refl)
 
-pub none_served : (sh : Shape) (reads : List ℕ) (plans : Plans) → PlansFor sh reads plans → NextPairs reads 0 plans.next
-none_served sh reads plans planned = record { size = planned.starts.size; each = λ x i g s. planned.starts.each x i g s ∙ sym (add-zero _) }
+  count_else : (x i : ℕ) → (group reads n ≡ x → symbol reads n ≡ i → ⊥) → count_of reads x i (n + 1) ≡ count_of reads x i n
+  count_else x i other = go (is_for reads x i n) refl
+    where
+      go : (t : Bool) → is_for reads x i n ≡ t → count_of reads x i (n + 1) ≡ count_of reads x i n
+      go true e =
+          let w = (both (eqb (group reads n) x) (eqb (symbol reads n) i)).0 e in
+          absurd (other (eqb-true (group reads n) x w.0) (eqb-true (symbol reads n) i w.1))
+      go false e = rw (add-one n, e) (omega arith)
 
--- read n, of group x and row r, takes the pair that stands at j, which is what entry e of `next` says
-pub record Turn (sh : Shape) (reads : List ℕ) (plans : Plans) (next : List ℕ) (n x r e j : ℕ) : Type 0 where
-  pub group_there : x < sh.m
+-- read n, of row r and of symbol i of group x, takes the pair that stands where the group's `next` says
+pub record Turn (sh : Shape) (reads : List ℕ) (n r x i : ℕ) (own : Group) : Type 0 where
+  pub row_is : r ≡ row reads n
+  pub group_is : x ≡ group reads n
   pub row_there : r < sh.g
-  pub entry : e < most_groups * most_symbols
-  pub place : j < most_groups * most_pairs
-  pub first_from : 1 ≤ get_or plans.first j 0
-  pub first_to : get_or plans.first j 0 ≤ banks sh
-  pub second_to : get_or plans.second j 0 ≤ banks sh
-  pub line : ◌≡◌ {A = List ℕ} (get_or plans.first j 0 ∷ get_or plans.second j 0 ∷ []) (line_of sh.k reads n)
-  pub packet : (s : List ℕ) → xor_of_cells sh s x r (opens (get_or plans.first j 0) (get_or plans.second j 0)) ≡ packet_of sh s reads n
-  pub after : NextPairs reads (n + 1) (set next e (j + 1))
+  pub group_there : x < sh.m
+  pub symbol_there : i < most_symbols
+  pub place : get_or own.next i 0 < most_pairs
+  pub first_is : get_or own.plan.first (get_or own.next i 0) 0 ≡ (pair_of sh.k reads n).a
+  pub second_is : get_or own.plan.second (get_or own.next i 0) 0 ≡ (pair_of sh.k reads n).b
+  pub pair : Serves sh.k (symbol reads n) (pair_of sh.k reads n)
 
-module _ (sh : Shape) (reads : List ℕ) (plans : Plans) (range : InRange sh) (named : Named sh reads) (few : Few sh reads)
-    (planned : PlansFor sh reads plans) (next : List ℕ) (n : ℕ) (l : n < read_count reads) (held : NextPairs reads n next) where
-  abbrev E : ℕ
-  E = group reads n * most_symbols + symbol reads n
+-- what that pair, a and b, gives
+pub record Handed (sh : Shape) (reads : List ℕ) (n r x a b : ℕ) : Type 0 where
+  pub first_from : 1 ≤ a
+  pub first_to : a ≤ banks sh
+  pub second_to : b ≤ banks sh
+  pub line : ◌≡◌ {A = List ℕ} (a ∷ b ∷ []) (line_of sh.k reads n)
+  pub packet : (s : List ℕ) → xor_of_cells sh s x r (opens a b) ≡ packet_of sh s reads n
 
-  abbrev Counts : List ℕ
-  Counts = counts_of reads (group reads n)
+pub handed : {sh : Shape} {reads : List ℕ} {n r x i a b : ℕ} {own : Group} → Turn sh reads n r x i own
+    → a ≡ get_or own.plan.first (get_or own.next i 0) 0 → b ≡ get_or own.plan.second (get_or own.next i 0) 0 → Handed sh reads n r x a b
+unfolding packet_of
+handed t e f =
+    let first = e ∙ t.first_is in
+    let second = f ∙ t.second_is in record {
+      first_from = rw first t.pair.first_from;
+      first_to = rw first t.pair.first_to;
+      second_to = rw second t.pair.second_to;
+      line = rw (first, second);
+      packet = λ s. rw (first, second, t.row_is, t.group_is);
+    }
 
-  abbrev Place : ℕ
-  Place = start Counts (symbol reads n) + ordinal reads n
+-- and the groups as they are then
+pub record Later (own later : Group) (i : ℕ) : Type 0 where
+  pub plan : later.plan ≡ own.plan
+  pub next : get_or later.next i 0 ≡ get_or own.next i 0 + 1
+  pub others : (s : ℕ) → s ≢ i → get_or later.next s 0 ≡ get_or own.next s 0
 
-  in_grid : (group reads n < most_groups) × (symbol reads n < most_symbols)
+module _ (sh : Shape) (reads : List ℕ) (range : InRange sh) (named : Named sh reads) (few : Few sh reads) (groups : List Group) (n : ℕ)
+    (l : n < read_count reads) (held : GroupsAfter sh.k reads n sh.m groups) (d : Group) where
+  abbrev X : ℕ
+  X = group reads n
+
+  abbrev I : ℕ
+  I = symbol reads n
+
+  abbrev Own : Group
+  Own = get_or groups X d
+
+  own : GroupAfter sh.k (counts_of reads X) (λ i. count_of reads X i n) Own
+  own = held.each X (named n l).1 d
+
+  in_grid : (X < most_groups) × (I < most_symbols)
   in_grid = let g = named n l in (omega (arith, range.groups.1), omega (arith, range.symbols.most))
 
-  place_is : get_or next E 0 ≡ group reads n * most_pairs + Place
-  place_is = held.each _ _ in_grid.0 in_grid.1 ∙ add_assoc _ _ _
+  place_is : get_or Own.next I 0 ≡ start (counts_of reads X) I + ordinal reads n
+  place_is = own.next I in_grid.1
 
-  place_less : Place < total Counts
-  place_less = pair_place sh reads range.symbols named n l
+  small : start (counts_of reads X) I + ordinal reads n < most_pairs
+  small = omega (arith, pair_place sh reads range.symbols named n l, few_pairs sh reads range few X (named n l).1)
 
-  first_at : get_or plans.first (get_or next E 0) 0 ≡ (pair_of sh.k reads n).a
+  first_at : get_or Own.plan.first (get_or Own.next I 0) 0 ≡ (pair_of sh.k reads n).a
   unfolding pair_of
-  first_at = rw place_is (planned.firsts (group reads n) Place (named n l).1 place_less)
+  first_at = rw (own.plan, place_is) (in_column (λ p. p.a) _ _ small)
 
-  second_at : get_or plans.second (get_or next E 0) 0 ≡ (pair_of sh.k reads n).b
+  second_at : get_or Own.plan.second (get_or Own.next I 0) 0 ≡ (pair_of sh.k reads n).b
   unfolding pair_of
-  second_at = rw place_is (planned.seconds (group reads n) Place (named n l).1 place_less)
+  second_at = rw (own.plan, place_is) (in_column (λ p. p.b) _ _ small)
 
-  packet_is : (s : List ℕ)
-      → xor_of_cells sh s (group reads n) (row reads n) (opens (get_or plans.first (get_or next E 0) 0) (get_or plans.second (get_or next E 0) 0))
-      ≡ packet_of sh s reads n
-  unfolding packet_of
-  packet_is s = rw (first_at, second_at)
-
-  pair : Serves sh.k (symbol reads n) (pair_of sh.k reads n)
-  pair = pair_serves sh reads range.symbols named few n l
-
-  served : Turn sh reads plans next n (group reads n) (row reads n) E (get_or next E 0)
-  served = record {
-    group_there = (named n l).1;
+  turn_here : Turn sh reads n (row reads n) X I Own
+  turn_here = record {
+    row_is = refl;
+    group_is = refl;
     row_there = (named n l).0;
-    entry = omega (arith, in_grid);
-    place = omega (arith, in_grid, place_is, place_less, few_pairs sh reads range few (group reads n) (named n l).1);
-    first_from = rw first_at pair.first_from;
-    first_to = rw first_at pair.first_to;
-    second_to = rw second_at pair.second_to;
-    line = rw (first_at, second_at);
-    packet = packet_is;
-    after = grid_turn reads (λ x i. x * most_pairs + start (counts_of reads x) i) next n E _ in_grid.0 in_grid.1 held refl refl;
+    group_there = (named n l).1;
+    symbol_there = in_grid.1;
+    place = omega (arith, place_is, small);
+    first_is = first_at;
+    second_is = second_at;
+    pair = pair_serves sh reads range.symbols named few n l;
   }
 
-  pub turn : (x r i : ℕ) → x ≡ group reads n → r ≡ row reads n → i ≡ symbol reads n
-      → Turn sh reads plans next n x r (x * most_symbols + i) (get_or next (x * most_symbols + i) 0)
-  turn x r i ex er ei = rw (ex, er, ei) served
+  pub turn : {r x i : ℕ} → r ≡ row reads n → x ≡ group reads n → i ≡ symbol reads n → Turn sh reads n r x i (get_or groups x d)
+  turn er ex ei = rw (er, ex, ei) turn_here
+
+  group_later : (later : Group) → Later Own later I → GroupAfter sh.k (counts_of reads X) (λ i. count_of reads X i (n + 1)) later
+  group_later later t = record { plan = t.plan ∙ own.plan; next = λ s h. at s h (eqb s I) refl }
+    where
+      at : (s : ℕ) → s < most_symbols → (b : Bool) → eqb s I ≡ b → get_or later.next s 0 ≡ start (counts_of reads X) s + count_of reads X s (n + 1)
+      at s h true e = rw (eqb-true s I e) (omega (arith, t.next, place_is, count_here reads n))
+      at s h false e =
+          let ne : s ≢ I = eqb-false s I e in
+          omega (arith, t.others s ne, own.next s h, count_else reads n X s (λ g q. ne (sym q)))
+
+  groups_later : (later : Group) → Later Own later I → GroupsAfter sh.k reads (n + 1) sh.m (set groups X later)
+  groups_later later t = groups_set sh.m groups in_grid.0 held.size (group_later later t) others
+    where
+      others : (y : ℕ) → y < sh.m → y ≢ X → (e : Group) → GroupAfter sh.k (counts_of reads y) (λ i. count_of reads y i (n + 1)) (get_or groups y e)
+      others y h ne e =
+          let g = held.each y h e in
+          record { plan = g.plan; next = λ s b. omega (arith, g.next s b, count_else reads n y s (λ same q. ne (sym same))) }
+
+  pub after : {x i : ℕ} (later : Group) → x ≡ group reads n → i ≡ symbol reads n → Later (get_or groups x d) later i
+      → GroupsAfter sh.k reads (n + 1) sh.m (set groups x later)
+  after later ex ei t = rw ex (groups_later later (rw (ex, ei) at t))

@@ -1,6 +1,6 @@
 -- What holds of the schedule and the output of every list of reads.
 use Rattle.std.specs.Prelude.{◌≡◌, Bool, List, ℕ, ◌*◌, ◌<◌, length}
-use Rattle.refusals.specs.declared.Verdict.TheVariants.{Accepted}
+use Rattle.refusals.specs.Verdict.{Accepted}
 use Rattle.cells.specs.Cell.{cell}
 use Rattle.layout.specs.declared.Shape.{Shape}
 use Rattle.layout.specs.Shape.{InRange, store_size}

@@ -1,18 +1,20 @@
--- What planning hands on to serving. No public promise cites it.
-use Rattle.std.specs.Prelude.{◌≡◌, List, ℕ, ◌+◌, ◌*◌, ◌<◌, get_or}
-use Rattle.simplex.specs.Shape.{most_pairs}
-use Rattle.simplex.specs.Limit.{total}
-use Rattle.audit.specs.Plan.{start, pair_at}
+-- What planning hands on to serving, and each read to the next. No public promise cites it.
+use Rattle.std.specs.Prelude.{◌≡◌, List, ℕ, ◌+◌, ◌<◌, length, get_or, HoldsAt}
+use Rattle.simplex.specs.Shape.{most_symbols}
+use Rattle.audit.specs.Plan.{start}
 use Rattle.plan.specs.Finding.{plan_of}
-use Rattle.layout.specs.declared.Shape.{Shape}
-use Rattle.reads.specs.Reads.{counts_of}
-use Rattle.reads.specs.Parts.{Grid}
-use Rattle.cycle.specs.declared.Plans.{Plans}
+use Rattle.plan.specs.Planned.{stored}
+use Rattle.layout.specs.Shape.{most_groups}
+use Rattle.reads.specs.Reads.{count_of, counts_of}
+use Rattle.cycle.specs.declared.Group.{Group}
 
--- The plan of each group stands among those of all, MOST_PAIRS places for each group; and for each symbol, where its first pair stands.
-pub record PlansFor (sh : Shape) (reads : List ℕ) (plans : Plans) : Type 0 where
-  pub firsts : (x j : ℕ) → x < sh.m → j < total (counts_of reads x)
-      → get_or plans.first (x * most_pairs + j) 0 ≡ (pair_at (plan_of sh.k (counts_of reads x)) j).a
-  pub seconds : (x j : ℕ) → x < sh.m → j < total (counts_of reads x)
-      → get_or plans.second (x * most_pairs + j) 0 ≡ (pair_at (plan_of sh.k (counts_of reads x)) j).b
-  pub starts : Grid (λ x i. x * most_pairs + start (counts_of reads x) i) plans.next
+-- A group with these counts, of whose symbol i `served i` reads are served: its plan is that of the counts, and the next pair of each symbol
+-- stands where `next` says.
+pub record GroupAfter (K : ℕ) (counts : List ℕ) (served : ℕ → ℕ) (group : Group) : Type 0 where
+  pub plan : group.plan ≡ stored (plan_of K counts)
+  pub next : (i : ℕ) → i < most_symbols → get_or group.next i 0 ≡ start counts i + served i
+
+-- The first m groups once n reads of a list are served.
+pub record GroupsAfter (K : ℕ) (reads : List ℕ) (n m : ℕ) (groups : List Group) : Type 0 where
+  pub size : length groups ≡ most_groups
+  pub each : (x : ℕ) → x < m → HoldsAt (GroupAfter K (counts_of reads x) (λ i. count_of reads x i n)) groups x

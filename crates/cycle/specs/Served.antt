@@ -3,9 +3,8 @@
 use Rattle.std.specs.Prelude.{◌≡◌, List, ℕ, ◌*◌, ◌<◌}
 use Rattle.cells.specs.Cell.{cell}
 use Rattle.simplex.specs.Limit.{In}
-use Rattle.audit.specs.declared.Audited.TheVariants.{Yes}
 use Rattle.audit.specs.Plan.{Pair, opened, Serves}
-use Rattle.audit.specs.Audit.{pair_in, pair_bytes, audit_of}
+use Rattle.audit.specs.Audit.{pair_in, pair_bytes, Yes, audit_of}
 use Rattle.plan.specs.Systematic.{systematic_pair}
 use Rattle.plan.specs.Finding.{plan_of}
 use Rattle.layout.specs.declared.Shape.{Shape}

@@ -3,11 +3,12 @@
 #![tactic(auto)]
 
 ghost use Rattle.std.specs.Prelude.{◌≡◌, length};
-ghost use Rattle.layout.specs.Shape.{InRange, store_size, CellOf};
+ghost use Rattle.layout.specs.Shape.{store_size, CellOf};
 
-use layout::Shape;
+use layout::{Geometry, Shape};
+use lines::hex::Hexadecimal;
 use memory::{Answer, Outcome, State};
-use std::io;
+use std::{fmt, io};
 
 // The symbols of the group, the bytes of a packet, the rows, the row that is written, and the most reads in a cycle.
 const K: usize = 4;
@@ -20,110 +21,74 @@ const ROW: usize = 1;
 
 const READS: usize = 8;
 
-fn print_text(rt: &impl Print, t: &[u8]) -> io::Result<()> {
-    rt.write_all(t)
+// A read that a cycle served: the symbol, the banks that it opened, where a second bank of 0 is none, and the packet.
+#[derive(Clone, Copy)]
+struct ServedRead<'a> {
+    symbol: u8,
+    banks: [u8; 2],
+    packet: &'a [u8],
 }
 
-fn print_number(rt: &impl Print, n: usize) -> io::Result<()> {
-    print!(rt; "{n}")
-}
-
-fn print_byte(rt: &impl Print, b: u8) -> io::Result<()> {
-    print!(rt; "{b:02x}")
-}
-
-fn print_hexadecimal(rt: &impl Print, bytes: &[u8]) -> io::Result<()> {
-    let mut i = 0;
-    while i < bytes.len() {
-        print_byte(rt, bytes[i])?;
-        i += 1;
+impl fmt::Display for ServedRead<'_> {
+    fn fmt<W: fmt::Write>(&self, f: &mut fmt::Formatter<W>) -> fmt::Result {
+        let [first, second] = self.banks;
+        write!(f, "packet {} from bank {first}", self.symbol)?;
+        if second != 0 {
+            write!(f, " and bank {second}")?;
+        }
+        write!(f, ": {}", str::from_utf8(self.packet).unwrap_or("no text"))
     }
-    Ok(())
 }
 
 fn print_answer(rt: &impl Print, outcome: Outcome) -> io::Result<()> {
-    let answer = outcome.answer;
-    match answer {
-        Answer::FullRows(rows) => {
-            print_text(rt, b"full rows ")?;
-            print_number(rt, rows)?;
-        }
-        Answer::Served => {
-            print_text(rt, b"served")?;
-        }
-        Answer::Refused(reason, _) => {
-            print_text(rt, b"refused with ")?;
-            print_number(rt, reason as usize)?;
-        }
+    match outcome.answer {
+        Ok(Answer::FullRows(rows)) => println!(rt; "full rows {rows}"),
+        Ok(Answer::Served) => println!(rt; "served"),
+        Err(refusal) => println!(rt; "refused with {}", refusal.reason.number()),
     }
-    print_text(rt, b"\n")
 }
 
 // A bank's cell of the row.
-fn cell_of(store: &[u8], shape: Shape, bank: usize) -> &[u8]
-    requires { InRange shape × CellOf shape 0 bank 1 × (length store.now ≡ store_size shape) }
+#[tactic(auto, using(layout::proofs::Places::inside))]
+fn cell_of(store: &[u8], geometry: Geometry, bank: usize) -> &[u8]
+    requires { CellOf geometry.shape 0 bank 1 × (length store.now ≡ store_size geometry.shape) }
 {
-    let at = layout::offset_of(shape, 0, bank, ROW);
-    &store[at..at + shape.p]
+    let at = geometry.offset_of(0, bank, ROW);
+    &store[at..at + geometry.shape.p]
 }
 
-// What a bank holds in the row.
-fn print_bank(rt: &impl Print, store: &[u8], shape: Shape, bank: u32) -> io::Result<()>
-    requires { InRange shape × CellOf shape 0 bank 1 × (length store.now ≡ store_size shape) }
-{
-    let cell = cell_of(store, shape, bank as usize);
-    print_text(rt, b"bank ")?;
-    print_number(rt, bank as usize)?;
-    print_text(rt, b", degree ")?;
-    print_number(rt, simplex::degree(bank) as usize)?;
-    print_text(rt, b": ")?;
-    print_hexadecimal(rt, cell)?;
-    print_text(rt, b"\n")
-}
-
+// What each bank holds in the row.
+#[tactic(auto, unfolding(layout::specs::Shape::store_size))]
 fn print_banks(rt: &impl Print, store: &[u8]) -> io::Result<()>
     requires { length store.now ≡ 150 }
 {
-    let shape = Shape {
-        k: K,
-        m: 1,
-        p: P,
-        g: G,
+    let geometry = Geometry {
+        shape: Shape {
+            k: K,
+            m: 1,
+            p: P,
+            g: G,
+        },
     };
-    let mut bank = 1;
-    while bank <= 15 {
-        print_bank(rt, store, shape, bank)?;
-        bank += 1;
+    for bank in 1..=15 {
+        let degree = simplex::degree(bank);
+        let cell = Hexadecimal(cell_of(store, geometry, bank as usize));
+        println!(rt; "bank {bank}, degree {degree}: {cell}")?;
     }
     Ok(())
 }
 
-fn print_read(rt: &impl Print, symbol: u8, a: u8, b: u8, packet: &[u8]) -> io::Result<()> {
-    print_text(rt, b"packet ")?;
-    print_number(rt, symbol as usize)?;
-    print_text(rt, b" from bank ")?;
-    print_number(rt, a as usize)?;
-    if b != 0 {
-        print_text(rt, b" and bank ")?;
-        print_number(rt, b as usize)?;
-    }
-    print_text(rt, b": ")?;
-    print_text(rt, packet)?;
-    print_text(rt, b"\n")
-}
-
 // What a cycle put out for its reads, and the banks that it opened for each.
-fn print_reads(rt: &impl Print, reads: &[u8], out: &[u8], schedule: &[u8]) -> io::Result<()>
-    requires { (length reads.now ≡ 24) × (length out.now ≡ 40) × (length schedule.now ≡ 16) }
-{
-    for n in 0..READS {
-        print_read(
-            rt,
-            reads[3 * n + 2],
-            schedule[2 * n],
-            schedule[2 * n + 1],
-            &out[P * n..P * n + P],
-        )?;
+fn print_reads(rt: &impl Print, reads: &[u8], out: &[u8], schedule: &[u8]) -> io::Result<()> {
+    let (reads, _) = reads.as_chunks::<3>();
+    let (lines, _) = schedule.as_chunks::<2>();
+    for (([_, _, symbol], banks), packet) in reads.iter().zip(lines).zip(out.chunks_exact(P)) {
+        let served = ServedRead {
+            symbol: *symbol,
+            banks: *banks,
+            packet,
+        };
+        println!(rt; "{served}")?;
     }
     Ok(())
 }
@@ -137,16 +102,12 @@ fn read(
     out: &mut [u8],
     schedule: &mut [u8],
 ) -> io::Result<()> {
-    print_text(rt, b"cycle of ")?;
-    print_number(rt, reads.len() / 3)?;
-    print_text(rt, b" reads: ")?;
+    print!(rt; "cycle of {} reads: ", reads.len() / 3)?;
     print_answer(rt, state.read_cycle(store, reads, out, schedule))
 }
 
 // A cycle of eight reads: what it puts out.
-fn print_cycle(rt: &impl Print, state: State, store: &[u8], reads: &[u8]) -> io::Result<()>
-    requires { length reads.now ≡ 24 }
-{
+fn print_cycle(rt: &impl Print, state: State, store: &[u8], reads: &[u8]) -> io::Result<()> {
     let mut out = [0u8; P * READS];
     let mut schedule = [0u8; 2 * READS];
     read(rt, state, store, reads, &mut out, &mut schedule)?;
@@ -156,9 +117,9 @@ fn print_cycle(rt: &impl Print, state: State, store: &[u8], reads: &[u8]) -> io:
 // Nine reads of the row, three bytes each (row, group, symbol): two of each packet, and packet 0 once more.
 fn nine_reads() -> [u8; 3 * (READS + 1)] {
     let mut reads = [0u8; 3 * (READS + 1)];
-    for n in 0..READS + 1 {
-        reads[3 * n] = ROW as u8;
-        reads[3 * n + 2] = (n / 2 % K) as u8;
+    let (each, _) = reads.as_chunks_mut::<3>();
+    for (n, read) in each.iter_mut().enumerate() {
+        *read = [ROW as u8, 0, (n / 2 % K) as u8];
     }
     reads
 }
@@ -174,24 +135,20 @@ fn print_cycles(rt: &impl Print, state: State, store: &[u8]) -> io::Result<()> {
 
 fn main(rt: HostRuntime) -> io::Result<()> {
     let group = simplex::group_of(K);
-    print_text(&rt, b"banks in the group: ")?;
-    print_number(&rt, group.banks)?;
-    print_text(&rt, b"\nmost reads in a cycle: ")?;
-    print_number(&rt, group.limit)?;
-    print_text(&rt, b"\n")?;
+    println!(&rt; "banks in the group: {}", group.banks)?;
+    println!(&rt; "most reads in a cycle: {}", group.limit)?;
     let packets = *b"northeast.southwest.";
-    let mut space = [0u8; 150];
+    let mut store = [0u8; 150];
     let new = State::set_up(K, 1, P, G);
-    let written = new.state.write(&mut space, ROW, &packets);
-    print_text(&rt, b"write to row 1: ")?;
+    let written = new.state.write(&mut store, ROW, &packets);
+    print!(&rt; "write to row {ROW}: ")?;
     print_answer(&rt, written)?;
-    let again = written.state.write(&mut space, ROW, &packets);
-    print_text(&rt, b"write to row 1: ")?;
+    let again = written.state.write(&mut store, ROW, &packets);
+    print!(&rt; "write to row {ROW}: ")?;
     print_answer(&rt, again)?;
-    let store: &[u8] = &space;
-    print_banks(&rt, store)?;
-    print_cycles(&rt, again.state, store)?;
+    print_banks(&rt, &store)?;
+    print_cycles(&rt, again.state, &store)?;
     let released = again.state.release(ROW);
-    print_text(&rt, b"release of row 1: ")?;
+    print!(&rt; "release of row {ROW}: ")?;
     print_answer(&rt, released)
 }

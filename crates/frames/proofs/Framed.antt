@@ -7,8 +7,8 @@ use native.Mathlib.Omega.{arith}
 use borrow.Author.Tests.{eqb-true, leb-true}
 use lib.Dec.{eqb, leb}
 use lib.ListN.{length, take}
-use Rattle.refusals.specs.declared.Verdict.TheVariants.{Accepted}
-use Rattle.refusals.specs.Verdict.{between}
+use Rattle.refusals.specs.declared.Reason.TheVariants as reason
+use Rattle.refusals.specs.Verdict.{Accepted, between}
 use Rattle.refusals.proofs.Verdicts.{check_passed, both, between_words}
 use Rattle.cells.specs.Cell.{put}
 use Rattle.cells.proofs.Cells.{cell_put}
@@ -31,7 +31,7 @@ framed line e =
     let range = between 1 most_characters (length line) in
     let even = eqb (length line % 2) 0 in
     let digits = each is_digit line in
-    let t = (both (range && even) digits).0 (check_passed 17 0 (range && even && digits) e) in
+    let t = (both (range && even) digits).0 (check_passed reason.NoHexadecimal 0 (range && even && digits) e) in
     let u = (both range even).0 t.0 in
     let w = between_words 1 most_characters (length line) u.0 in
     record { some = w.0; most = w.1; even = eqb-true _ _ u.1; digits = t.1 }

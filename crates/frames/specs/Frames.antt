@@ -1,9 +1,10 @@
 -- Frames: what a line must be (17), which frame its bytes are (18), and how an answer is said in bytes.
-use Rattle.std.specs.Prelude.{cond, ◌&&◌, List, [], ◌∷◌, ◌++◌, ℕ, ◌+◌, ◌*◌, ◌/◌, ◌%◌, eqb, leb, length, get_or}
-use Rattle.refusals.specs.declared.Verdict.{Verdict}
-use Rattle.refusals.specs.Verdict.{between, check}
+use Rattle.std.specs.Prelude.{cond, ◌&&◌, List, [], ◌∷◌, ◌++◌, ℕ, ◌+◌, ◌*◌, ◌/◌, ◌%◌, eqb, leb, length, get_or, Result, Ok, Err}
+use Rattle.refusals.specs.declared.Refusal.{Refusal}
+use Rattle.refusals.specs.declared.Reason.TheVariants as reason
+use Rattle.refusals.specs.Verdict.{Verdict, number_of, between, check}
 use Rattle.memory.specs.declared.Answer.{Answer}
-use Rattle.memory.specs.declared.Answer.TheVariants.{FullRows, Served, Refused}
+use Rattle.memory.specs.declared.Answer.TheVariants.{FullRows, Served}
 use Rattle.frames.specs.declared.Frame.{Frame}
 use Rattle.frames.specs.declared.Frame.TheVariants.{SetUp, Write, Release, Read, Unknown}
 use Rattle.lines.specs.Lines.{line_feed, each}
@@ -18,7 +19,7 @@ most_frame = most_characters / 2
 
 -- 17, the line is empty, has an odd count of digits, a character other than 0-9 and a-f, or more than 4,096 characters.
 unfoldable pub line_refusal : List ℕ → Verdict
-line_refusal line = check 17 0 (between 1 most_characters (length line) && eqb (length line % 2) 0 && each is_digit line)
+line_refusal line = check reason.NoHexadecimal 0 (between 1 most_characters (length line) && eqb (length line % 2) 0 && each is_digit line)
 
 -- Byte n of a frame.
 abbrev pub byte : List ℕ → ℕ → ℕ
@@ -41,14 +42,14 @@ abbrev pub no_frame_byte : ℕ
 no_frame_byte = 255
 
 -- A refusal in bytes: its number, and its place in two, high first.
-abbrev pub refusal_said : (number place : ℕ) → List ℕ
-refusal_said number place = number ∷ (place / 256) ∷ (place % 256) ∷ []
+abbrev pub refusal_said : Refusal → List ℕ
+refusal_said refusal = number_of refusal.reason ∷ (refusal.place / 256) ∷ (refusal.place % 256) ∷ []
 
 -- A memory's answer in bytes: 00 and the number of full rows; 00 and the packets of a cycle; a refusal.
-abbrev pub said : (packets : List ℕ) → Answer → List ℕ
-said packets (FullRows rows) = 0 ∷ rows ∷ []
-said packets Served = 0 ∷ packets
-said packets (Refused number place) = refusal_said number place
+abbrev pub said : (packets : List ℕ) → Result Answer Refusal → List ℕ
+said packets (Ok (FullRows rows)) = 0 ∷ rows ∷ []
+said packets (Ok Served) = 0 ∷ packets
+said packets (Err refusal) = refusal_said refusal
 
 -- The line that bytes are printed as.
 abbrev pub printed : List ℕ → List ℕ

@@ -1,14 +1,14 @@
 // Frames and answers of a session: what a line is read as, and how an answer is written.
 #![tactic(auto)]
 
-ghost use Rattle.std.specs.Prelude.{◌≡◌, [], ◌∷◌, ◌+◌, ◌*◌, ◌≤◌, length, take};
-ghost use Rattle.cells.specs.Cell.{cell};
+ghost use Rattle.std.specs.Prelude.{◌≡◌, ◌∷◌, ◌+◌, ◌*◌, ◌≤◌, ◌<◌, length};
 ghost use Rattle.frames.specs.Frames.{line_refusal, frame_of, said};
 ghost use Rattle.frames.specs.Printing.{Fits, Prints};
 
 use layout::Shape;
+use lines::hex;
 use memory::Answer;
-use refusals::Verdict;
+use refusals::{Reason, Refusal, Verdict, check, is_between};
 
 // The most characters of a line, and the bytes of the longest frame.
 const MOST_CHARACTERS: usize = 4096;
@@ -21,8 +21,8 @@ pub const MOST_STORE: usize = 16384;
 pub const MOST_OUTPUT: usize = 2 * (2 + MOST_STORE) + 1;
 
 // A frame, by its first byte; unknown where that or its length is wrong. The packets of a write and the reads of a cycle are the bytes behind
-// these fields.
-#[derive(Clone, Copy)]
+// these fields. The unknown ones are a kind of their own, since the project's rules name this form.
+#[derive(Clone, Copy, Debug, PartialEq, Eq)]
 pub enum Frame {
     SetUp(Shape),
     Write(usize),
@@ -32,84 +32,33 @@ pub enum Frame {
 }
 
 // The refusal of a line: 17.
+#[tactic(auto, unfolding(crate::specs::Frames::line_refusal))]
 pub fn judge_line(line: &[u8]) -> Verdict
     ensures { result ≡ line_refusal line.now }
 {
-    if !refusals::is_between(1, MOST_CHARACTERS, line.len()) {
-        return Verdict::Refused(17, 0);
-    }
-    if line.len() % 2 != 0 {
-        return Verdict::Refused(17, 0);
-    }
-    if !lines::hex::all_digits(line) {
-        return Verdict::Refused(17, 0);
-    }
-    Verdict::Accepted
-}
-
-// A byte as a word. A function of its own, so that where it is used only the index is left to bound.
-fn wide(b: u8) -> usize
-    ensures { result ≡ b }
-{
-    b as usize
+    let whole = is_between(1, MOST_CHARACTERS, line.len())
+        && line.len() % 2 == 0
+        && hex::all_digits(line);
+    check(whole, Reason::NoHexadecimal, 0)
 }
 
 // The frame that bytes are.
+#[tactic(auto, unfolding(crate::specs::Frames::frame_of))]
 pub fn frame_of(bytes: &[u8]) -> Frame
     requires { 1 ≤ length bytes.now }
     ensures { result ≡ frame_of bytes.now }
 {
-    let first = bytes[0];
-    let len = bytes.len();
-    match first {
-        1 => {
-            if len != 6 {
-                return Frame::Unknown;
-            }
-            let shape = Shape {
-                k: wide(bytes[1]),
-                m: wide(bytes[2]),
-                p: wide(bytes[3]) * 256 + wide(bytes[4]),
-                g: wide(bytes[5]),
-            };
-            Frame::SetUp(shape)
-        }
-        2 => {
-            if len < 2 {
-                return Frame::Unknown;
-            }
-            Frame::Write(wide(bytes[1]))
-        }
-        3 => {
-            if len != 2 {
-                return Frame::Unknown;
-            }
-            Frame::Release(wide(bytes[1]))
-        }
-        4 => Frame::Read,
+    match bytes {
+        [1, k, m, high, low, g] => Frame::SetUp(Shape {
+            k: usize::from(*k),
+            m: usize::from(*m),
+            p: usize::from(u16::from_be_bytes([*high, *low])),
+            g: usize::from(*g),
+        }),
+        [2, row, ..] => Frame::Write(usize::from(*row)),
+        [3, row] => Frame::Release(usize::from(*row)),
+        [4, ..] => Frame::Read,
         _ => Frame::Unknown,
-    }
-}
-
-// The bytes of an answer, over the front of `bytes`, which has the packets of a cycle from index 2 on. Gives the number of the answer's bytes.
-pub fn say(first: u8, answer: Answer, bytes: &mut [u8], packets: usize) -> usize
-    requires { Fits answer × (4 ≤ length bytes.old) × (2 + packets ≤ length bytes.old) }
-    ensures { (result ≤ length bytes.new) × (take result bytes.new ≡ first ∷ said (cell bytes.old 2 packets) answer) }
-{
-    bytes[0] = first;
-    bytes[1] = 0;
-    match answer {
-        Answer::FullRows(rows) => {
-            bytes[2] = rows as u8;
-            3
-        }
-        Answer::Served => 2 + packets,
-        Answer::Refused(number, place) => {
-            bytes[1] = number;
-            bytes[2] = (place / 256) as u8;
-            bytes[3] = (place % 256) as u8;
-            4
-        }
     }
 }
 
@@ -118,18 +67,32 @@ pub fn print_line(bytes: &[u8], out: &mut [u8]) -> usize
     requires { 2 * length bytes.now + 1 ≤ length out.old }
     ensures { Prints bytes.now out.old result out.new }
 {
-    lines::hex::encode(bytes, out);
+    hex::encode(bytes, out);
     let end = 2 * bytes.len();
     out[end] = b'\n';
     end + 1
 }
 
-// Prints an answer that has no packets.
-pub fn print_answer(first: u8, answer: Answer, out: &mut [u8; MOST_OUTPUT]) -> usize
-    requires { Fits answer }
-    ensures { Prints (first ∷ said [] answer) out.old result out.new }
+// Prints an answer, with the packets if it is of a cycle that is served. Gives the length of its line.
+pub fn print_answer(
+    first: u8,
+    answer: Result<Answer, Refusal>,
+    packets: &[u8],
+    out: &mut [u8; MOST_OUTPUT],
+) -> usize
+    requires fits { Fits answer }
+    requires room { 2 * (2 + length packets.now) < length out.old }
+    ensures { Prints (first ∷ said packets.now answer) out.old result out.new }
 {
-    let mut bytes = [0u8; 4];
-    let len = say(first, answer, &mut bytes[..], 0);
-    print_line(&bytes[..len], &mut out[..])
+    match answer {
+        Ok(Answer::FullRows(rows)) => print_line(&[first, 0, rows as u8], out),
+        Ok(Answer::Served) => {
+            hex::encode(&[first, 0], out);
+            4 + print_line(packets, &mut out[4..])
+        }
+        Err(Refusal { reason, place }) => {
+            let [high, low] = (place as u16).to_be_bytes();
+            print_line(&[first, reason.number(), high, low], out)
+        }
+    }
 }

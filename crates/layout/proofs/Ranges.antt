@@ -5,8 +5,7 @@ use Prim.Native.Nat.{ℕ, ◌*◌, ◌^◌, ◌≤◌}
 use native.Mathlib.Nat.{mul-le-mul}
 use native.Mathlib.Omega.{arith}
 use lib.Pow.{pow_mono}
-use Rattle.refusals.specs.declared.Verdict.TheVariants.{Accepted}
-use Rattle.refusals.specs.Verdict.{between}
+use Rattle.refusals.specs.Verdict.{Accepted, between}
 use Rattle.refusals.proofs.Verdicts.{checks, between_words, words_between}
 use Rattle.simplex.specs.Shape.{least_symbols, most_symbols, banks_of}
 use Rattle.layout.specs.declared.Shape.{Shape}
@@ -40,16 +39,6 @@ words_range sh w = rw (
 
 pub few_banks : (sh : Shape) → InRange sh → banks sh ≤ banks_of most_symbols
 few_banks sh w = let l : 2 ^ sh.k ≤ 2 ^ most_symbols = pow_mono w.symbols.most in omega arith
-
-pub row_bytes : (sh : Shape) → InRange sh → sh.g * sh.p ≤ most_rows * most_packet_bytes
-row_bytes sh w = mul-le-mul w.rows.1 w.bytes.1
-
-pub group_bytes : (sh : Shape) → InRange sh → sh.k * sh.p ≤ most_symbols * most_packet_bytes
-group_bytes sh w = mul-le-mul w.symbols.most w.bytes.1
-
--- what is at most most, by rows and bytes
-pub scaled : (sh : Shape) → InRange sh → (n most : ℕ) → n ≤ most → (n * sh.g ≤ most * most_rows) × (n * sh.p ≤ most * most_packet_bytes)
-scaled sh w n most l = (mul-le-mul l w.rows.1, mul-le-mul l w.bytes.1)
 
 pub all_banks_lem : (sh : Shape) (x : ℕ) → InRange sh → x ≤ most_groups → x * banks sh ≤ most_groups * banks_of most_symbols
 all_banks_lem sh x w l = mul-le-mul l (few_banks sh w)

@@ -1,6 +1,6 @@
 -- The laws of a shape.
 use Rattle.std.specs.Prelude.{◌≡◌, ◌↔◌, ℕ, ◌+◌, ◌≤◌}
-use Rattle.refusals.specs.declared.Verdict.TheVariants.{Accepted}
+use Rattle.refusals.specs.Verdict.{Accepted}
 use Rattle.cells.specs.Cell.{Apart}
 use Rattle.layout.specs.declared.Shape.{Shape}
 use Rattle.layout.specs.Shape.{shape_refusal, InRange, store_size, CellOf, offset}

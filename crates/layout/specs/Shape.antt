@@ -1,7 +1,7 @@
 -- The shape of a memory: its ranges, its sizes, and where each cell lies.
 use Rattle.std.specs.Prelude.{List, ℕ, ◌+◌, ◌-◌, ◌*◌, ◌≤◌, ◌<◌}
-use Rattle.refusals.specs.declared.Verdict.{Verdict}
-use Rattle.refusals.specs.Verdict.{between, check, ◌then◌}
+use Rattle.refusals.specs.declared.Reason.TheVariants as reason
+use Rattle.refusals.specs.Verdict.{Verdict, between, check, ◌then◌}
 use Rattle.cells.specs.Cell.{cell}
 use Rattle.simplex.specs.Shape.{least_symbols, most_symbols, SymbolsInRange, banks_of}
 use Rattle.simplex.specs.Code.{Packet}
@@ -20,10 +20,10 @@ most_rows = 64
 -- Set-up's refusals. 1, K outside 2 to 5. 2, m outside 1 to 8. 3, P outside 1 to 2,048. 4, G outside 1 to 64.
 unfoldable pub shape_refusal : Shape → Verdict
 shape_refusal sh =
-    check 1 0 (between least_symbols most_symbols sh.k)
-    then check 2 0 (between 1 most_groups sh.m)
-    then check 3 0 (between 1 most_packet_bytes sh.p)
-    then check 4 0 (between 1 most_rows sh.g)
+    check reason.SymbolsOutOfRange 0 (between least_symbols most_symbols sh.k)
+    then check reason.GroupsOutOfRange 0 (between 1 most_groups sh.m)
+    then check reason.PacketSizeOutOfRange 0 (between 1 most_packet_bytes sh.p)
+    then check reason.RowsOutOfRange 0 (between 1 most_rows sh.g)
 
 -- Set-up's ranges, in words.
 pub record InRange (sh : Shape) : Type 0 where

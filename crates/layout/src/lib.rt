@@ -5,7 +5,7 @@ ghost use Rattle.std.specs.Prelude.{◌≡◌};
 ghost use Rattle.layout.specs.Shape.{shape_refusal, InRange, store_size, generation_size, CellOf, offset};
 ghost use Rattle.layout.specs.Laws.{TheLayout};
 
-use refusals::Verdict;
+use refusals::{Reason, Refusal, Verdict, check, is_between};
 use simplex::{LEAST_SYMBOLS, MOST_SYMBOLS};
 
 // The most groups, bytes of a packet and rows of a memory.
@@ -16,7 +16,7 @@ const MOST_PACKET_BYTES: usize = 2048;
 pub const MOST_ROWS: usize = 64;
 
 // K symbols in a group, m groups, P bytes in a packet, G rows.
-#[derive(Clone, Copy)]
+#[derive(Clone, Copy, Debug, Default, PartialEq, Eq)]
 pub struct Shape {
     pub k: usize,
     pub m: usize,
@@ -30,46 +30,73 @@ pub fn the_layout()
 {}
 
 // Set-up's refusal of a shape: 1 to 4.
+#[tactic(auto, unfolding(crate::specs::Shape::shape_refusal))]
 pub fn judge_shape(shape: Shape) -> Verdict
     ensures { result ≡ shape_refusal shape }
 {
-    if !refusals::is_between(LEAST_SYMBOLS, MOST_SYMBOLS, shape.k) {
-        return Verdict::Refused(1, 0);
-    }
-    if !refusals::is_between(1, MOST_GROUPS, shape.m) {
-        return Verdict::Refused(2, 0);
-    }
-    if !refusals::is_between(1, MOST_PACKET_BYTES, shape.p) {
-        return Verdict::Refused(3, 0);
-    }
-    if !refusals::is_between(1, MOST_ROWS, shape.g) {
-        return Verdict::Refused(4, 0);
-    }
-    Verdict::Accepted
+    check(
+        is_between(LEAST_SYMBOLS, MOST_SYMBOLS, shape.k),
+        Reason::SymbolsOutOfRange,
+        0,
+    )?;
+    check(
+        is_between(1, MOST_GROUPS, shape.m),
+        Reason::GroupsOutOfRange,
+        0,
+    )?;
+    check(
+        is_between(1, MOST_PACKET_BYTES, shape.p),
+        Reason::PacketSizeOutOfRange,
+        0,
+    )?;
+    check(is_between(1, MOST_ROWS, shape.g), Reason::RowsOutOfRange, 0)
 }
 
-// The store's length.
-pub fn store_size(shape: Shape) -> usize
-    requires { InRange shape }
-    ensures { result ≡ store_size shape }
-{
-    let group = simplex::group_of(shape.k);
-    shape.m * group.banks * shape.g * shape.p
+// A shape in set-up's ranges. Sizes and places are computed from it.
+#[derive(Clone, Copy, Debug, PartialEq, Eq)]
+pub struct Geometry {
+    pub shape: Shape,
+    pub ghost in_range: { InRange shape },
 }
 
-// The length of a generation.
-pub fn generation_size(shape: Shape) -> usize
-    requires { InRange shape }
-    ensures { result ≡ generation_size shape }
-{
-    shape.m * shape.k * shape.p
-}
+impl Geometry {
+    ghost use Rattle.layout.specs.Judged.{Judged};
 
-// Where bank b of group x keeps row r.
-pub fn offset_of(shape: Shape, x: usize, b: usize, r: usize) -> usize
-    requires { InRange shape × CellOf shape x b r }
-    ensures { result ≡ offset shape x b r }
-{
-    let group = simplex::group_of(shape.k);
-    ((x * group.banks + b - 1) * shape.g + r) * shape.p
+    // The geometry of a shape, or set-up's refusal of it: 1 to 4.
+    pub fn of(shape: Shape) -> Result<Geometry, Refusal>
+        ensures { Judged shape (shape_refusal shape) result }
+    {
+        judge_shape(shape)?;
+        Ok(Geometry { shape })
+    }
+
+    // The store's length.
+    #[tactic(auto, using(simplex::proofs::Tables::banks_of_lem), unfolding(crate::specs::Shape::store_size))]
+    pub fn store_size(self) -> usize
+        ensures { result ≡ store_size self.shape }
+    {
+        let shape = self.shape;
+        let group = simplex::group_of(shape.k);
+        shape.m * group.banks * shape.g * shape.p
+    }
+
+    // The length of a generation.
+    #[tactic(auto, unfolding(crate::specs::Shape::generation_size))]
+    pub fn generation_size(self) -> usize
+        ensures { result ≡ generation_size self.shape }
+    {
+        let shape = self.shape;
+        shape.m * shape.k * shape.p
+    }
+
+    // Where bank b of group x keeps row r.
+    #[tactic(auto, using(simplex::proofs::Tables::banks_of_lem), unfolding(crate::specs::Shape::offset))]
+    pub fn offset_of(self, x: usize, b: usize, r: usize) -> usize
+        requires { CellOf self.shape x b r }
+        ensures { result ≡ offset self.shape x b r }
+    {
+        let shape = self.shape;
+        let group = simplex::group_of(shape.k);
+        ((x * group.banks + b - 1) * shape.g + r) * shape.p
+    }
 }

@@ -1,5 +1,6 @@
 -- The lines of a text, and where a reader finds them.
-use Rattle.std.specs.Prelude.{Bool, true, cond, not, ◌&&◌, List, [], ◌∷◌, ◌++◌, ℕ, ◌+◌, eqb, ltb, length, drop}
+use Rattle.std.specs.Prelude.{Bool, cond, not, List, [], ◌∷◌, ◌++◌, ℕ, ◌+◌, eqb, ltb, length, drop}
+use Rattle.std.specs.List.{list_all}
 use Rattle.lines.specs.declared.reader.Line.{Line}
 
 -- The character that ends a line.
@@ -8,8 +9,7 @@ line_feed = 10
 
 -- Whether each element passes a test.
 abbrev pub each : {A : Type 0} → (A → Bool) → List A → Bool
-each test [] = true
-each test (x ∷ xs) = test x && each test xs
+each test l = list_all test l
 
 -- ---- the lines of a text
 

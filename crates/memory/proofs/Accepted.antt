@@ -1,21 +1,18 @@
 -- What an accepted write, update, release and read cycle tell: each check is passed. And the checks of a lent store in their order.
 use mathlib.Core.Path.{◌≡◌}
-use mathlib.Core.Bool.{Bool, true, false}
+use mathlib.Core.Bool.{true, false}
 use mathlib.Core.List.{List}
 use Prim.Native.Nat.{ℕ, ◌<◌}
 use borrow.Author.Tests.{eqb-true, ltb-true, not-true, eq-eqb, ne_eqb, lt-ltb, le-ltb}
-use lib.Dec.{eqb}
-use Rattle.refusals.specs.declared.Verdict.TheVariants.{Accepted, Refused}
+use Rattle.refusals.specs.Verdict.{Accepted}
 use Rattle.refusals.proofs.Verdicts.{checks}
-use Rattle.refusals.specs.Verdict.{check}
-use Rattle.layout.specs.declared.Shape.{Shape}
-use Rattle.reads.specs.Refusals.{packet_refusal, list_refusal}
+use Rattle.reads.specs.Refusals.{list_refusal}
 use Rattle.reads.proofs.Accepted.{Accepts, accepts, accepted}
 use Rattle.memory.specs.declared.State.{State}
-use Rattle.layout.specs.Shape.{store_size, generation_size}
+use Rattle.layout.specs.Shape.{store_size, generation_size, InRange}
 use Rattle.memory.specs.State.{is_full, sound, Sound}
 use Rattle.memory.specs.Laws.{RightUpdate, WrongUpdate}
-use Rattle.memory.proofs.States.{sound_words, words_sound}
+use Rattle.memory.proofs.States.{sound_words, words_sound, sound_ranges}
 use Rattle.memory.specs.Operations.{store_refusal, write_refusal, update_refusal, release_refusal, cycle_refusal}
 
 ruleset tests = (checks, eqb-true, ltb-true, not-true)
@@ -37,48 +34,12 @@ pub record Readable (st : State) (size : ℕ) (reads : List ℕ) (out schedule :
   pub store : size ≡ store_size st.shape
   pub list : Accepts st.shape (is_full st) reads out schedule
 
--- a packet that is accepted is so with any place for its refusals
-pub any_place : (sh : Shape) (full : ℕ → Bool) (place other row x i : ℕ) → packet_refusal sh full place row x i ≡ Accepted
-    → packet_refusal sh full other row x i ≡ Accepted
-any_place sh full place other row x i e =
-    let lower : row < sh.g = search tests in
-    let group : x < sh.m = search tests in
-    let symbol : i < sh.k = search tests in
-    let filled : full row ≡ true = search tests in
-    rw (lt-ltb _ _ lower, lt-ltb _ _ group, lt-ltb _ _ symbol, filled)
-
 -- where a store is lent: the checks in their order
-module _ (st : State) (size : ℕ) where
-  pub refused_five : sound st ≡ false → Refused 5 0 ≡ store_refusal st size
-  refused_five e = rw e
-
-  pub refused_six : sound st ≡ true → eqb size (store_size st.shape) ≡ false → Refused 6 0 ≡ store_refusal st size
-  refused_six s e = rw (s, e)
-
-  pub store_fine : sound st ≡ true → size ≡ store_size st.shape → Accepted ≡ store_refusal st size
-  store_fine s e = rw (s, eq-eqb size (store_size st.shape) e)
-
-  pub update_by_store : (row x i len number place : ℕ) → store_refusal st size ≡ Refused number place
-      → Refused number place ≡ update_refusal st size row x i len
-  unfolding update_refusal
-  update_by_store row x i len number place e = rw e
-
-  module _ (lent : store_refusal st size ≡ Accepted) (row x i len : ℕ) where
-    pub update_by_packet : (number place : ℕ) → packet_refusal st.shape (is_full st) 0 row x i ≡ Refused number place
-        → Refused number place ≡ update_refusal st size row x i len
-    unfolding update_refusal
-    update_by_packet number place e = rw (lent, e)
-
-    pub update_by_length : packet_refusal st.shape (is_full st) 0 row x i ≡ Accepted → update_refusal st size row x i len ≡ check 10 0 (eqb len st.shape.p)
-    unfolding update_refusal
-    update_by_length e = rw (lent, e)
-
-  pub write_by_store : (row len number place : ℕ) → store_refusal st size ≡ Refused number place → Refused number place ≡ write_refusal st size row len
-  unfolding write_refusal
-  write_by_store row len number place e = rw e
-
 pub store_facts : (st : State) (size : ℕ) → store_refusal st size ≡ Accepted → (sound st ≡ true) × (size ≡ store_size st.shape)
 store_facts st size e = search tests
+
+pub lent : (st : State) (size : ℕ) → store_refusal st size ≡ Accepted → InRange st.shape × (size ≡ store_size st.shape)
+lent st size e = let f = store_facts st size e in (sound_ranges st f.0, f.1)
 
 pub written_facts : (st : State) (size row len : ℕ) → write_refusal st size row len ≡ Accepted → Writable st size row len
 unfolding write_refusal
@@ -86,12 +47,7 @@ written_facts st size row len e = search tests
 
 pub update_facts : (st : State) (size row x i len : ℕ) → update_refusal st size row x i len ≡ Accepted → RightUpdate st size row x i len
 unfolding update_refusal
-update_facts st size row x i len e =
-    let state : sound st ≡ true = search checks in
-    let lower : row < st.shape.g = search tests in
-    let group : x < st.shape.m = search tests in
-    let symbol : i < st.shape.k = search tests in
-    record { state = sound_words st state; store = search tests; packet = record { group = group; symbol = symbol; row = lower }; full = search tests; bytes = search tests }
+update_facts st size row x i len e = search (tests, sound_words)
 
 pub facts_update : (st : State) (size row x i len : ℕ) → RightUpdate st size row x i len → update_refusal st size row x i len ≡ Accepted
 unfolding update_refusal
@@ -119,6 +75,9 @@ wrong_update st size row x i len w = record {
 pub released_facts : (st : State) (row : ℕ) → release_refusal st row ≡ Accepted → Releasable st row
 unfolding release_refusal
 released_facts st row e = search tests
+
+pub release_toggles : (st : State) (row : ℕ) → release_refusal st row ≡ Accepted → (sound st ≡ true) × (row < st.shape.g)
+release_toggles st row e = let f = released_facts st row e in (f.state, f.below)
 
 pub read_facts : (st : State) (size : ℕ) (reads : List ℕ) (out schedule : ℕ) → cycle_refusal st size reads out schedule ≡ Accepted
     → Readable st size reads out schedule

@@ -6,10 +6,11 @@ use native.Mathlib.Omega.{arith}
 use borrow.Author.Tests.{eqb-true}
 use lib.Dec.{eqb}
 use lib.ListN.{length, get_or}
-use Rattle.refusals.specs.declared.Verdict.{Verdict}
-use Rattle.refusals.specs.declared.Verdict.TheVariants.{Accepted, Refused}
-use Rattle.refusals.specs.Verdict.{if_refused}
-use Rattle.refusals.proofs.Verdicts.{check_passed, never_check, never_then, skips, both}
+use Rattle.refusals.specs.declared.Reason.TheVariants as reason
+use Rattle.std.specs.Prelude.{Ok, Err}
+use Rattle.refusals.specs.declared.Refusal.{Refusal}
+use Rattle.refusals.specs.Verdict.{Verdict, Accepted, refused, answer_by, if_refused}
+use Rattle.refusals.proofs.Verdicts.{answered, check_passed, never_check, never_then, skips, both}
 use Rattle.simplex.specs.Shape.{limit_of}
 use Rattle.simplex.specs.Limit.{total}
 use Rattle.simplex.specs.Code.{Packet, Sized, bank_cell, xor_of_banks}
@@ -30,22 +31,19 @@ use Rattle.cycle.specs.Served.{PlansAudited, SystematicLines, OpenedOnce}
 use Rattle.cycle.proofs.Pairs.{plans_audited}
 use Rattle.cycle.proofs.Lines.{systematic_lines, served_read, opened_once}
 use Rattle.memory.specs.declared.State.{State}
-use Rattle.memory.specs.declared.Answer.TheVariants.{Served, Refused as NotDone}
+use Rattle.memory.specs.declared.Outcome.{Outcome}
+use Rattle.memory.specs.declared.Answer.TheVariants.{Served}
 use Rattle.memory.specs.State.{is_full, sound, Sound}
-use Rattle.memory.specs.Operations.{answer_by, store_refusal, cycle_refusal, cycle_outcome, cycle_output, cycle_schedule}
+use Rattle.memory.specs.Operations.{store_refusal, cycle_refusal, cycle_outcome, cycle_output, cycle_schedule}
 use Rattle.memory.specs.Demand3.{RightForm, NamedRowsFull, NoneTooMany, ServedCycle, TooMany, Demand3}
 use Rattle.memory.proofs.States.{sound_words}
 use Rattle.memory.proofs.Accepted.{Readable, store_facts, read_facts, facts_read}
 
 -- ---- what an answer tells of the verdict
 
-answered : (v : Verdict) → answer_by Served v ≡ Served → v ≡ Accepted
-answered Accepted e = refl
-answered (Refused number place) e = absurd (let z : ◌≡◌ {A = ℕ} 0 1 = cc in omega arith)
-
-answered_no : (v : Verdict) (number place : ℕ) → answer_by Served v ≡ NotDone number place → v ≡ Refused number place
-answered_no Accepted number place e = absurd (let z : ◌≡◌ {A = ℕ} 0 1 = cc in omega arith)
-answered_no (Refused n p) number place e = let a : n ≡ number = cc in let b : p ≡ place = cc in rw (a, b)
+answered_no : (v : Verdict) (refusal : Refusal) → answer_by Served v ≡ Err refusal → v ≡ Err refusal
+answered_no Accepted refusal e = cc
+answered_no (Err own) refusal e = let same : own ≡ refusal = cc in ap Err same
 
 module _ (st : State) (s reads out schedule : List ℕ) where
   abbrev sh : Shape
@@ -53,16 +51,6 @@ module _ (st : State) (s reads out schedule : List ℕ) where
 
   abbrev refusal : Verdict
   refusal = cycle_refusal st (length s) reads (length out) (length schedule)
-
-  -- ---- the checks in their order
-
-  pub by_store : (number place : ℕ) → store_refusal st (length s) ≡ Refused number place → refusal ≡ Refused number place
-  unfolding cycle_refusal
-  by_store number place e = rw e
-
-  pub by_list : store_refusal st (length s) ≡ Accepted → refusal ≡ list_refusal sh (is_full st) reads (length out) (length schedule)
-  unfolding cycle_refusal
-  by_list e = rw e
 
   -- ---- demand 3
 
@@ -90,8 +78,8 @@ module _ (st : State) (s reads out schedule : List ℕ) where
         let e = facts_read st (length s) reads (length out) (length schedule) f in
         rw e (opened_once sh ok.ranges s reads f.store f.list.named f.list.few schedule f.list.schedule_size)
 
-  pub facts : answer_by Served refusal ≡ Served → Readable st (length s) reads (length out) (length schedule)
-  facts e = read_facts st (length s) reads (length out) (length schedule) (answered refusal e)
+  pub facts : answer_by Served refusal ≡ Ok Served → Readable st (length s) reads (length out) (length schedule)
+  facts e = read_facts st (length s) reads (length out) (length schedule) ((answered Served refusal Served (sym e)).1)
 
   -- the right form, full rows and no group with too many reads are all that is asked
   readable : RightForm st (length s) reads (length out) (length schedule) → NamedRowsFull st reads → NoneTooMany sh reads
@@ -99,12 +87,12 @@ module _ (st : State) (s reads out schedule : List ℕ) where
   readable form full few =
       let store = store_facts st (length s) form.store in
       let named : Named sh reads = λ n l. form_named sh reads n (form.named n l) in
-      let fit = (both _ _).0 (check_passed 16 0 _ form.buffers) in
+      let fit = (both _ _).0 (check_passed reason.BufferLengths 0 _ form.buffers) in
       record {
         state = store.0;
         store = store.1;
         list = record {
-          whole = eqb-true _ _ (check_passed 13 0 (eqb (length reads % 3) 0) form.list);
+          whole = eqb-true _ _ (check_passed reason.ListLength 0 (eqb (length reads % 3) 0) form.list);
           named = named;
           rows_full = full;
           few = λ x l. rw (many (sound_words st store.0) named x) at (few x l);
@@ -113,12 +101,12 @@ module _ (st : State) (s reads out schedule : List ℕ) where
         };
       }
 
-  too_many : (x : ℕ) → refusal ≡ Refused 12 x → TooMany sh reads x
+  too_many : (x : ℕ) → refusal ≡ refused reason.TooManyReads x → TooMany sh reads x
   unfolding cycle_refusal
   too_many x e =
-      let five = never_check 12 5 0 (sound st) (λ z. omega arith) in
-      let six = never_check 12 6 0 (eqb (length s) (store_size sh)) (λ z. omega arith) in
-      let list = skips 12 (store_refusal st (length s)) _ x (never_then 12 _ _ five six) e in
+      let five = never_check reason.TooManyReads reason.BrokenState 0 (sound st) (λ z. cc) in
+      let six = never_check reason.TooManyReads reason.StoreLength 0 (eqb (length s) (store_size sh)) (λ z. cc) in
+      let list = skips reason.TooManyReads (store_refusal st (length s)) _ x (never_then reason.TooManyReads _ _ five six) e in
       let ok = sound_words st (store_facts st (length s) list.0).0 in
       let o = over sh (is_full st) reads (length out) (length schedule) x list.1 in
       let more : limit_of sh.k < length (reads_in reads x) = rw (many ok o.named x) o.many in
@@ -136,32 +124,50 @@ module _ (st : State) (s reads out schedule : List ℕ) where
     yields = λ e n l. opened_yields sh.k sh.p (symbol reads n) _ ((serves_all_lem (facts e)).each n l).pair;
     once = λ e. opens_once (facts e);
     limit = λ some x. limit_of_reads sh.k sh.p (reads_in reads x) some;
-    refused = λ x e. too_many x (answered_no refusal 12 x e);
+    refused = λ x e. too_many x (answered_no refusal (record { reason = reason.TooManyReads; place = x }) e);
   }
 
-  audited : answer_by Served refusal ≡ Served → PlansAudited sh reads
+  audited : answer_by Served refusal ≡ Ok Served → PlansAudited sh reads
   audited e = let f = facts e in plans_audited sh reads (sound_words st f.state).ranges.symbols f.list.named f.list.few
 
-  systematic : answer_by Served refusal ≡ Served → SystematicLines reads (cycle_schedule st s reads out schedule)
+  systematic : answer_by Served refusal ≡ Ok Served → SystematicLines reads (cycle_schedule st s reads out schedule)
   systematic e =
       let f = facts e in
-      rw (answered refusal e) (systematic_lines sh reads schedule f.list.schedule_size (ok f).ranges.symbols f.list.named)
+      rw ((answered Served refusal Served (sym e)).1) (systematic_lines sh reads schedule f.list.schedule_size (ok f).ranges.symbols f.list.named)
 
-  -- ---- the promise of a cycle, by its verdict
+  -- ---- the promise of a cycle that gives this and leaves these buffers
 
-  pub promised : (v w : Verdict) → refusal ≡ v → v ≡ w → (out' schedule' : List ℕ)
+  abbrev Promise : (given : Outcome) (out' schedule' : List ℕ) → Type 0
+  Promise given out' schedule' = record {
+    outcome : given ≡ cycle_outcome st (length s) reads (length out) (length schedule);
+    output : out' ≡ cycle_output st s reads out schedule;
+    lines : schedule' ≡ cycle_schedule st s reads out schedule;
+    demand3 : Demand3 st s reads (length out) (length schedule) given.answer out' schedule';
+    plans : given.answer ≡ Ok Served → PlansAudited sh reads;
+    systematic : given.answer ≡ Ok Served → SystematicLines reads schedule';
+  }
+
+  promised : (v : Verdict) → refusal ≡ v → (out' schedule' : List ℕ)
       → out' ≡ if_refused out (packets_out sh s reads out) v → schedule' ≡ if_refused schedule (lines_out sh reads schedule) v
-      → (record { state = st; answer = answer_by Served w } ≡ cycle_outcome st (length s) reads (length out) (length schedule))
-      × (out' ≡ cycle_output st s reads out schedule)
-      × (schedule' ≡ cycle_schedule st s reads out schedule)
-      × Demand3 st s reads (length out) (length schedule) (answer_by Served w) out' schedule'
-      × (answer_by Served w ≡ Served → PlansAudited sh reads)
-      × (answer_by Served w ≡ Served → SystematicLines reads schedule')
-  promised v w e same out' schedule' packets lines =
-      let a : w ≡ refusal = sym (e ∙ same) in
+      → Promise (record { state = st; answer = answer_by Served v }) out' schedule'
+  promised v e out' schedule' packets lines =
+      let a : v ≡ refusal = sym e in
       let b : out' ≡ cycle_output st s reads out schedule = rw e packets in
       let c : schedule' ≡ cycle_schedule st s reads out schedule = rw e lines in
-      (rw a, b, c, rw (a, b, c) demand3, rw a audited, rw (a, c) systematic)
+      record { outcome = rw a refl; output = b; lines = c; demand3 = rw (a, b, c) demand3; plans = rw a audited; systematic = rw (a, c) systematic }
+
+  -- by the verdict on the state and the store
+  pub refused_store : (r : Refusal) → Err r ≡ store_refusal st (length s) → Promise (record { state = st; answer = Err r }) out schedule
+  unfolding cycle_refusal
+  refused_store r e = promised (Err r) (rw (← e) refl) out schedule refl refl
+
+  -- by the verdict on the list and the buffers
+  pub by_the_list : (v w : Verdict) → Accepted ≡ store_refusal st (length s) → v ≡ list_refusal sh (is_full st) reads (length out) (length schedule) → v ≡ w
+      → (out' schedule' : List ℕ) → out' ≡ if_refused out (packets_out sh s reads out) v → schedule' ≡ if_refused schedule (lines_out sh reads schedule) v
+      → Promise (record { state = st; answer = answer_by Served w }) out' schedule'
+  unfolding cycle_refusal
+  by_the_list v w e f same out' schedule' packets lines =
+      promised w (rw (← e) (sym f ∙ same)) out' schedule' (rw (← same) packets) (rw (← same) lines)
 
 -- ---- the packet of a pair, where the cells of its row are those of the code
 

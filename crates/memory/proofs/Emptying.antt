@@ -7,19 +7,21 @@ use native.Mathlib.Omega.{arith}
 use borrow.Author.Tests.{not-true, not-false, ltb-true, ltb-false, lt-ltb, le-leb, lt-leb}
 use lib.Dec.{leb, ltb}
 use Rattle.bits.specs.Marks.{marked, how_many}
-use Rattle.bits.specs.Sets.{First}
+use Rattle.bits.specs.Sets.{set_of, First}
 use Rattle.bits.proofs.Marks.{passes_below, same_many, many_without}
-use Rattle.bits.proofs.Sets.{marked_set, marked_past}
-use Rattle.refusals.specs.declared.Verdict.{Verdict}
-use Rattle.refusals.specs.declared.Verdict.TheVariants.{Accepted, Refused}
-use Rattle.refusals.specs.Verdict.{check}
+use Rattle.bits.proofs.Sets.{marked_set, marked_past, first_passes}
+use Rattle.std.specs.Prelude.{Option, Some, None}
+use Rattle.refusals.specs.declared.Refusal.{Refusal}
+use Rattle.refusals.specs.declared.Reason.{Reason}
+use Rattle.refusals.specs.declared.Reason.TheVariants as reason
+use Rattle.refusals.specs.Verdict.{Verdict, Accepted, refused, check, ◌then◌}
 use Rattle.refusals.proofs.Verdicts.{checks, check_passed, check_refused, stops, all_accepted, accepted_all, first_refused, first_same, then_refused, both}
 use Rattle.layout.specs.Shape.{most_rows}
 use Rattle.memory.specs.declared.State.{State}
 use Rattle.memory.specs.State.{is_full, full_rows, sound, Sound, rows_emptied}
 use Rattle.memory.specs.Operations.{each_row, release_set_refusal}
 use Rattle.memory.specs.Laws.{FirstRow, NoRow}
-use Rattle.memory.proofs.States.{words_sound}
+use Rattle.memory.proofs.States.{sound_words, words_sound}
 use Rattle.memory.proofs.Toggling.{all_counted}
 
 -- ---- a check of each row of a set
@@ -36,28 +38,29 @@ fails : (m t : Bool) → (not m || t) ≡ false → (m ≡ true) × (t ≡ false
 fails true t e = (refl, e)
 fails false t e = absurd (false≢true (sym e))
 
-module _ (number set : ℕ) (test : ℕ → Bool) where
+module _ (why : Reason) (set : ℕ) (test : ℕ → Bool) where
   abbrev judged : ℕ → Verdict
-  judged r = check number r (not (marked set r) || test r)
+  judged r = check why r (not (marked set r) || test r)
 
   passed : (r : ℕ) → (marked set r ≡ true → test r ≡ true) → judged r ≡ Accepted
   passed r h = rw (implies (marked set r) (test r) h)
 
   passing : (r : ℕ) → judged r ≡ Accepted → marked set r ≡ true → test r ≡ true
-  passing r e = implied (marked set r) (test r) (check_passed number r _ e)
+  passing r e = implied (marked set r) (test r) (check_passed why r _ e)
 
   -- the first row of the set that does not pass settles it
-  pub row_refused : (r : ℕ) → FirstRow set (λ i. not (test i)) r → each_row number set test ≡ Refused number r
+  row_refused : (r : ℕ) → FirstRow set (λ i. not (test i)) r → each_row why set test ≡ refused why r
   unfolding each_row
   row_refused r f =
-      stops judged most_rows r number r f.row (accepted_all judged r (λ i l. passed i (λ m. not-false _ (f.before i l m))))
+      stops judged most_rows r (record { reason = why; place = r }) f.row (accepted_all judged r (λ i l. passed i (λ m. not-false _ (f.before i l m))))
       (rw (f.in_set, not-true (test r) f.passes))
 
-  pub refused_row : (n r : ℕ) → each_row number set test ≡ Refused n r → (number ≡ n) × FirstRow set (λ i. not (test i)) r
+  refused_row : (n : Reason) (r : ℕ) → each_row why set test ≡ refused n r → (why ≡ n) × FirstRow set (λ i. not (test i)) r
   unfolding each_row
   refused_row n r e =
-      let t = first_refused judged most_rows n r e in
-      let c = check_refused number t.0 _ n r t.2 in
+      let own : Refusal = record { reason = n; place = r } in
+      let t = first_refused judged most_rows own e in
+      let c = check_refused why t.0 _ own t.2 in
       let f = fails (marked set t.0) (test t.0) c.2 in (
         c.0,
         rw (← c.1) (record {
@@ -68,27 +71,45 @@ module _ (number set : ℕ) (test : ℕ → Bool) where
         }),
       )
 
-  pub rows_accepted : ((r : ℕ) → r < most_rows → marked set r ≡ true → test r ≡ true) → each_row number set test ≡ Accepted
+  rows_accepted : ((r : ℕ) → r < most_rows → marked set r ≡ true → test r ≡ true) → each_row why set test ≡ Accepted
   unfolding each_row
   rows_accepted h = accepted_all judged most_rows (λ r l. passed r (h r l))
 
-  pub accepted_rows : each_row number set test ≡ Accepted → (r : ℕ) → r < most_rows → marked set r ≡ true → test r ≡ true
+  accepted_rows : each_row why set test ≡ Accepted → (r : ℕ) → r < most_rows → marked set r ≡ true → test r ≡ true
   unfolding each_row
   accepted_rows e r l = passing r (all_accepted judged most_rows e r l)
 
   -- as the code finds it
-  pub found_row : (r : ℕ) → r < most_rows → First (λ i. marked set i && not (test i)) most_rows r → FirstRow set (λ i. not (test i)) r
-  found_row r l f =
-      let it = (both (marked set r) (not (test r))).0 (f.itself l) in
-      record { row = l; in_set = it.0; passes = it.1; before = λ i b m. rw m at (f.before i b) }
+  found_row : (r : ℕ) → First (λ i. marked set i && not (test i)) most_rows (Some r) → FirstRow set (λ i. not (test i)) r
+  found_row r f =
+      let it = (both (marked set r) (not (test r))).0 f.itself in
+      record { row = f.below; in_set = it.0; passes = it.1; before = λ i b m. rw m at (f.before i b) }
 
-  pub found_none : First (λ i. marked set i && not (test i)) most_rows most_rows → (r : ℕ) → r < most_rows → marked set r ≡ true → test r ≡ true
-  found_none f r l m = not-false (test r) (rw m at (f.before r l))
+  found_none : First (λ i. marked set i && not (test i)) most_rows None → (r : ℕ) → r < most_rows → marked set r ≡ true → test r ≡ true
+  found_none f r l m = not-false (test r) (rw m at (f r l))
+
+-- by the first row of the set that is not in another
+module _ (why : Reason) (set within left : ℕ) (e : left ≡ set_of (λ i. marked set i && not (marked within i)) most_rows) where
+  found : (r : Option ℕ) → First (marked left) most_rows r → First (λ i. marked set i && not (marked within i)) most_rows r
+  found r f = first_passes _ most_rows r (rw (← e) f)
+
+  pub refused_by_first : (r : ℕ) → First (marked left) most_rows (Some r) → each_row why set (marked within) ≡ refused why r
+  refused_by_first r f = row_refused why set (marked within) r (found_row why set (marked within) r (found (Some r) f))
+
+  pub accepted_by_first : First (marked left) most_rows None → each_row why set (marked within) ≡ Accepted
+  accepted_by_first f = rows_accepted why set (marked within) (found_none why set (marked within) (found None f))
 
 -- the same rows pass, and the same are marked
-pub rows_alike : (number set : ℕ) (f g : ℕ → Bool) → ((r : ℕ) → r < most_rows → f r ≡ g r) → each_row number set f ≡ each_row number set g
+pub rows_alike : (why : Reason) (set : ℕ) (f g : ℕ → Bool) → ((r : ℕ) → r < most_rows → f r ≡ g r) → each_row why set f ≡ each_row why set g
 unfolding each_row
-rows_alike number set f g h = first_same (judged number set f) (judged number set g) most_rows (λ r l. rw (h r l))
+rows_alike why set f g h = first_same (judged why set f) (judged why set g) most_rows (λ r l. rw (h r l))
+
+-- the rows below G, as a set
+pub set_refusal_by_sets : (st : State) (set : ℕ) → release_set_refusal st set
+    ≡ check reason.BrokenState 0 (sound st) then each_row reason.NoSuchRow set (marked (set_of (λ i. ltb i st.shape.g) most_rows)) then each_row reason.EmptyRow set (marked st.full)
+unfolding release_set_refusal
+set_refusal_by_sets st set =
+    rw (rows_alike reason.NoSuchRow set (marked (set_of (λ i. ltb i st.shape.g) most_rows)) (λ i. ltb i st.shape.g) (marked_set (λ i. ltb i st.shape.g) most_rows)) refl
 
 -- ---- an accepted release
 
@@ -99,8 +120,8 @@ pub record SetReleasable (st : State) (set : ℕ) : Type 0 where
 pub set_released_facts : (st : State) (set : ℕ) → release_set_refusal st set ≡ Accepted → SetReleasable st set
 unfolding release_set_refusal
 set_released_facts st set e =
-    let rows : each_row 9 set (is_full st) ≡ Accepted = search checks in
-    record { state = search checks; full = accepted_rows 9 set (is_full st) rows }
+    let rows : each_row reason.EmptyRow set (is_full st) ≡ Accepted = search checks in
+    record { state = search checks; full = accepted_rows reason.EmptyRow set (is_full st) rows }
 
 -- a full row is below G
 pub full_below : (st : State) → Sound st → (r : ℕ) → is_full st r ≡ true → r < st.shape.g
@@ -110,8 +131,8 @@ pub facts_set_released : (st : State) (set : ℕ) → Sound st → ((r : ℕ) �
 unfolding release_set_refusal
 facts_set_released st set s full = rw (
   words_sound st s,
-  rows_accepted 7 set (λ r. ltb r st.shape.g) (λ r _ m. lt-ltb _ _ (full_below st s r (full r m))),
-  rows_accepted 9 set (is_full st) (λ r _. full r),
+  rows_accepted reason.NoSuchRow set (λ r. ltb r st.shape.g) (λ r _ m. lt-ltb _ _ (full_below st s r (full r m))),
+  rows_accepted reason.EmptyRow set (is_full st) (λ r _. full r),
 )
 
 -- ---- a refused one
@@ -132,6 +153,9 @@ first_alike set r f g same w = record {
   before = λ i l m. sym (same i) ∙ w.before i l m;
 }
 
+other : ◌≡◌ {A = Reason} reason.EmptyRow reason.NoSuchRow → ⊥
+other e = cc
+
 module _ (st : State) (set r : ℕ) (s : Sound st) where
   abbrev below : ℕ → Bool
   below i = ltb i st.shape.g
@@ -139,25 +163,25 @@ module _ (st : State) (set r : ℕ) (s : Sound st) where
   abbrev past : ℕ → Bool
   past i = leb st.shape.g i
 
-  pub seven : (release_set_refusal st set ≡ Refused 7 r) ↔ FirstRow set past r
+  pub seven : (release_set_refusal st set ≡ refused reason.NoSuchRow r) ↔ FirstRow set past r
   unfolding release_set_refusal
   seven = (
-    λ e. ⊎_elim (λ a. first_alike set r _ _ (past_test st.shape.g) (refused_row 7 set below 7 r a).1)
-        (λ b. let wrong : ◌≡◌ {A = ℕ} 9 7 = (refused_row 9 set (is_full st) 7 r b.1).0 in absurd (omega arith))
-        (then_refused _ (each_row 9 set (is_full st)) 7 r (rw (words_sound st s) at e)),
-    λ f. rw (words_sound st s, row_refused 7 set below r (first_alike set r _ _ (λ i. sym (past_test st.shape.g i)) f)),
+    λ e. ⊎_elim (λ a. first_alike set r _ _ (past_test st.shape.g) (refused_row reason.NoSuchRow set below reason.NoSuchRow r a).1)
+        (λ b. let wrong : reason.EmptyRow ≡ reason.NoSuchRow = (refused_row reason.EmptyRow set (is_full st) reason.NoSuchRow r b.1).0 in absurd (other wrong))
+        (then_refused _ (each_row reason.EmptyRow set (is_full st)) (record { reason = reason.NoSuchRow; place = r }) (rw (words_sound st s) at e)),
+    λ f. rw (words_sound st s, row_refused reason.NoSuchRow set below r (first_alike set r _ _ (λ i. sym (past_test st.shape.g i)) f)),
   )
 
-  pub nine : (release_set_refusal st set ≡ Refused 9 r) ↔ (NoRow set past × FirstRow set (λ i. not (is_full st i)) r)
+  pub nine : (release_set_refusal st set ≡ refused reason.EmptyRow r) ↔ (NoRow set past × FirstRow set (λ i. not (is_full st i)) r)
   unfolding release_set_refusal
   nine = (
-    λ e. ⊎_elim (λ a. let wrong : ◌≡◌ {A = ℕ} 7 9 = (refused_row 7 set below 9 r a).0 in absurd (omega arith))
-        (λ b. (λ i l m. sym (past_test st.shape.g i) ∙ rw (accepted_rows 7 set below b.0 i l m), (refused_row 9 set (is_full st) 9 r b.1).1))
-        (then_refused _ (each_row 9 set (is_full st)) 9 r (rw (words_sound st s) at e)),
+    λ e. ⊎_elim (λ a. let wrong : reason.NoSuchRow ≡ reason.EmptyRow = (refused_row reason.NoSuchRow set below reason.EmptyRow r a).0 in absurd (other (sym wrong)))
+        (λ b. (λ i l m. sym (past_test st.shape.g i) ∙ rw (accepted_rows reason.NoSuchRow set below b.0 i l m), (refused_row reason.EmptyRow set (is_full st) reason.EmptyRow r b.1).1))
+        (then_refused _ (each_row reason.EmptyRow set (is_full st)) (record { reason = reason.EmptyRow; place = r }) (rw (words_sound st s) at e)),
     λ f. rw (
       words_sound st s,
-      rows_accepted 7 set below (λ i l m. not-false _ (past_test st.shape.g i ∙ f.0 i l m)),
-      row_refused 9 set (is_full st) r f.1,
+      rows_accepted reason.NoSuchRow set below (λ i l m. not-false _ (past_test st.shape.g i ∙ f.0 i l m)),
+      row_refused reason.EmptyRow set (is_full st) r f.1,
     ),
   )
 
@@ -184,3 +208,7 @@ module _ (st : State) (set : ℕ) (s : Sound st) where
   emptied_count full =
       rw (← all_counted (rows_emptied st set) emptied_sound, ← all_counted st s, same_many _ _ most_rows (λ r _. emptied_rows r))
       (many_without (is_full st) (marked set) most_rows full)
+
+pub emptied_counted : (st : State) (set : ℕ) → release_set_refusal st set ≡ Accepted
+    → how_many (marked (rows_emptied st set).full) most_rows ≡ full_rows (rows_emptied st set)
+emptied_counted st set e = all_counted (rows_emptied st set) (emptied_sound st set (sound_words st (set_released_facts st set e).state))

@@ -11,9 +11,9 @@ use lib.Dec.{eqb}
 use lib.ListN.{length}
 use Rattle.bits.specs.Marks.{marked, how_many}
 use Rattle.bits.proofs.Marks.{unmarked, same_many, none_more}
-use Rattle.refusals.specs.declared.Verdict.{Verdict}
-use Rattle.refusals.specs.declared.Verdict.TheVariants.{Accepted, Refused}
-use Rattle.refusals.specs.Verdict.{if_refused}
+use Rattle.std.specs.Prelude.{Ok, Err}
+use Rattle.refusals.specs.declared.Reason.TheVariants as reason
+use Rattle.refusals.specs.Verdict.{Verdict, Accepted, answer_by, if_refused}
 use Rattle.refusals.proofs.Verdicts.{both}
 use Rattle.cells.specs.Cell.{cell}
 use Rattle.cells.proofs.Cells.{length_put}
@@ -32,7 +32,7 @@ use Rattle.memory.specs.declared.Outcome.{Outcome}
 use Rattle.memory.specs.declared.Answer.TheVariants.{FullRows, Served}
 use Rattle.layout.specs.Shape.{shape_refusal, store_size, generation_size, CellOf, cell_at}
 use Rattle.memory.specs.State.{is_full, full_rows, empty, row_toggled, rows_emptied, Sound}
-use Rattle.memory.specs.Operations.{answer_by, outcome_by, write_refusal, update_refusal, update_store, release_refusal, release_set_refusal, cycle_refusal, cycle_schedule}
+use Rattle.memory.specs.Operations.{outcome_by, write_refusal, update_refusal, update_store, release_refusal, release_set_refusal, cycle_refusal, cycle_schedule}
 use Rattle.memory.specs.History.{Operation, write, update, release, release_set, read, History, Memory, outcome_of, store_after, run}
 use Rattle.memory.specs.History.{verdict_in, told_by, full_by, written_by, full_in, last_written, filled_by, emptied_by, in_all, Returned, UpdatedIn, Remembers, AfterAnyHistory}
 use Rattle.memory.specs.Laws.{RightUpdate}
@@ -76,9 +76,9 @@ accepted : {sh : Shape} {full : ℕ → Bool} {last : ℕ → List ℕ} {after :
 accepted {sh = sh} {full = full} {after = after} before operation told k count = record {
   keeps = k;
   count = count;
-  answer = ap FullRows
+  answer = ap (λ (n : ℕ). Ok (FullRows n))
       (same_many (is_full after) full after.shape.g (λ r _. (k.rows r).mark) ∙ ap (λ (sh : Shape). how_many full sh.g) k.shape)
-      ∙ told (how_many full sh.g);
+      ∙ ap Ok (told (how_many full sh.g));
 }
 
 -- what is so of one row, and of each other
@@ -124,7 +124,7 @@ module _ (st : State) (s : List ℕ) (full : ℕ → Bool) (last : ℕ → List 
     write_by Accepted e =
         let w = written_facts st (length s) row (length generation) e in
         accepted st (write row generation) (λ rows. refl) (write_keeps w) (omega (arith, (row_filled st row w.below w.empty).count))
-    write_by (Refused number place) e = record { keeps = kept; answer = refl; count = omega arith }
+    write_by (Err r) e = record { keeps = kept; answer = refl; count = omega arith }
 
   -- ---- a release
 
@@ -150,7 +150,7 @@ module _ (st : State) (s : List ℕ) (full : ℕ → Bool) (last : ℕ → List 
   release_by Accepted e =
       let w = released_facts st row e in
       accepted st (release row) (λ rows. refl) (release_keeps w) (omega (arith, (row_emptied st row w.below w.full).count))
-  release_by (Refused number place) e = record { keeps = kept; answer = refl; count = omega arith }
+  release_by (Err r) e = record { keeps = kept; answer = refl; count = omega arith }
 
 -- ---- an update
 
@@ -200,14 +200,14 @@ module _ (st : State) (s : List ℕ) (full : ℕ → Bool) (last : ℕ → List 
       (update row x i packet) (outcome_by st st v) (if_refused s (packet_updated st.shape row x i packet s) v)
   update_by Accepted e =
       accepted st (update row x i packet) (λ rows. refl) (update_keeps (update_facts st (length s) row x i (length packet) e)) (omega arith)
-  update_by (Refused number place) e = record { keeps = kept; answer = refl; count = omega arith }
+  update_by (Err r) e = record { keeps = kept; answer = refl; count = omega arith }
 
 -- ---- a release of a row set
 
 module _ (st : State) (s : List ℕ) (full : ℕ → Bool) (last : ℕ → List ℕ) (kept : Held st.shape full last st s) (set : ℕ) where
   set_judged : release_set_refusal st set ≡ verdict_in st.shape full (release_set set)
   unfolding release_set_refusal
-  set_judged = rw (words_sound st kept.sound, rows_alike 9 set (is_full st) full (λ r _. (kept.rows r).mark))
+  set_judged = rw (words_sound st kept.sound, rows_alike reason.EmptyRow set (is_full st) full (λ r _. (kept.rows r).mark))
 
   set_keeps : Held st.shape (full_by (release_set set) full) (written_by st.shape (release_set set) last) (rows_emptied st set) s
   set_keeps = record {
@@ -231,7 +231,7 @@ module _ (st : State) (s : List ℕ) (full : ℕ → Bool) (last : ℕ → List 
       (outcome_by st (rows_emptied st set) v) s
   set_by Accepted e =
       accepted st (release_set set) (λ rows. refl) set_keeps (emptied_count st set kept.sound (set_released_facts st set e).full ∙ omega arith)
-  set_by (Refused number place) e = record { keeps = kept; answer = refl; count = omega arith }
+  set_by (Err r) e = record { keeps = kept; answer = refl; count = omega arith }
 
 -- ---- a read cycle
 
@@ -248,10 +248,10 @@ module _ (st : State) (s : List ℕ) (full : ℕ → Bool) (last : ℕ → List 
       → Done st.shape (if_refused full (full_by (read reads out schedule) full) v) (if_refused last (written_by st.shape (read reads out schedule) last) v) v st
       (read reads out schedule) (record { state = st; answer = answer_by Served v }) s
   read_by Accepted = record { keeps = kept; answer = refl; count = omega arith }
-  read_by (Refused number place) = record { keeps = kept; answer = refl; count = omega arith }
+  read_by (Err r) = record { keeps = kept; answer = refl; count = omega arith }
 
   -- each read brings what was last written to its row
-  returned : answer_by Served (cycle_refusal st (length s) reads (length out) (length schedule)) ≡ Served → (n : ℕ) → n < read_count reads
+  returned : answer_by Served (cycle_refusal st (length s) reads (length out) (length schedule)) ≡ Ok Served → (n : ℕ) → n < read_count reads
       → (full (row reads n) ≡ true)
       × Returned st.shape (record { state = st; store = s }) reads out schedule n (last (row reads n))
   returned e n l =
@@ -305,7 +305,7 @@ follows sh history memory k operation =
     (by_operation history memory (subst (λ (s : Shape). Agrees s history memory) (sym k.shape) k) operation)
 
 returns : (sh : Shape) (history : History) (memory : Memory) → Agrees sh history memory → (reads out schedule : List ℕ)
-    → (outcome_of memory (read reads out schedule)).answer ≡ Served → (n : ℕ) → n < read_count reads
+    → (outcome_of memory (read reads out schedule)).answer ≡ Ok Served → (n : ℕ) → n < read_count reads
     → (full_in sh history (row reads n) ≡ true) × Returned sh memory reads out schedule n (last_written sh history (row reads n))
 returns sh history memory k reads out schedule =
     rw (← k.shape) (returned memory.state memory.store _ _ (rw (← k.shape) at k) reads out schedule)

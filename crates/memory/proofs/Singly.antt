@@ -13,7 +13,8 @@ use Rattle.bits.specs.Marks.{marked, toggled}
 use Rattle.bits.proofs.Bits.{below_power}
 use Rattle.bits.proofs.Marks.{toggled_itself, toggled_other, passes_below, unmarked, bit_mark}
 use Rattle.bits.proofs.Sets.{only_set, same_set, none_lt, lt_none}
-use Rattle.refusals.specs.declared.Verdict.TheVariants.{Accepted}
+use Rattle.std.specs.Prelude.{Ok}
+use Rattle.refusals.specs.Verdict.{Accepted}
 use Rattle.layout.specs.Shape.{most_rows}
 use Rattle.memory.specs.declared.State.{State}
 use Rattle.memory.specs.declared.Answer.TheVariants.{FullRows}
@@ -156,7 +157,7 @@ singly st after set rows s h names = (
     once : (r : ℕ) → marked set r ≡ true → 1 ≤ times_in r rows
     once r e = let it : times_in r rows ≡ 1 = names r ∙ bit_mark set r ∙ rw e in omega (arith, it)
 
-pub empty_set_lem : (st : State) → Sound st → release_set_outcome st 0 ≡ record { state = st; answer = FullRows (full_rows st) }
+pub empty_set_lem : (st : State) → Sound st → release_set_outcome st 0 ≡ record { state = st; answer = Ok (FullRows (full_rows st)) }
 empty_set_lem st s =
     rw (
       facts_set_released st 0 s (λ r e. absurd (false≢true (sym (unmarked r) ∙ e))),

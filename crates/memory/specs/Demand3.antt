@@ -1,6 +1,8 @@
 -- Demand 3 of the service description: one claim about a whole read cycle, for any state, store, list and buffers, whoever made them.
-use Rattle.std.specs.Prelude.{◌≡◌, ◌↔◌, true, List, ℕ, ◌≤◌, ◌<◌, length}
-use Rattle.refusals.specs.declared.Verdict.TheVariants.{Accepted}
+use Rattle.std.specs.Prelude.{◌≡◌, ◌↔◌, true, List, ℕ, ◌≤◌, ◌<◌, length, Result, Ok}
+use Rattle.refusals.specs.declared.Refusal.{Refusal}
+use Rattle.refusals.specs.declared.Reason.TheVariants as reason
+use Rattle.refusals.specs.Verdict.{Accepted, refused}
 use Rattle.simplex.specs.Shape.{limit_of}
 use Rattle.simplex.specs.Code.{Banks, Yields}
 use Rattle.simplex.specs.Limit.{DisjointSets, SomeFails, LimitFor}
@@ -11,7 +13,7 @@ use Rattle.reads.specs.Refusals.{length_refusal, form_refusal, buffer_refusal}
 use Rattle.cycle.specs.Served.{line, ServedRead, OpenedOnce}
 use Rattle.memory.specs.declared.State.{State}
 use Rattle.memory.specs.declared.Answer.{Answer}
-use Rattle.memory.specs.declared.Answer.TheVariants.{Served, Refused}
+use Rattle.memory.specs.declared.Answer.TheVariants.{Served}
 use Rattle.memory.specs.State.{is_full}
 use Rattle.memory.specs.Operations.{store_refusal}
 
@@ -31,8 +33,8 @@ abbrev pub NoneTooMany : Shape → List ℕ → Type 0
 NoneTooMany sh reads = (x : ℕ) → x < sh.m → length (reads_in reads x) ≤ limit_of sh.k
 
 -- The cycle is served: it isn't refused, and each read of the list is served.
-pub record ServedCycle (st : State) (s reads : List ℕ) (answer : Answer) (out schedule : List ℕ) : Type 0 where
-  pub answered : answer ≡ Served
+pub record ServedCycle (st : State) (s reads : List ℕ) (answer : Result Answer Refusal) (out schedule : List ℕ) : Type 0 where
+  pub answered : answer ≡ Ok Served
   pub each : (n : ℕ) → n < read_count reads → ServedRead st.shape s reads out schedule n
 
 -- Group x is the lowest that has more than 2^(K-1) reads; and whichever disjoint bank sets of any size they are given, some set fails its read.
@@ -48,11 +50,11 @@ pub record TooMany (sh : Shape) (reads : List ℕ) (x : ℕ) : Type 0 where
 -- packet; and no bank is opened twice.
 -- limit: of a group with more than 2^(K-1) reads, whichever disjoint bank sets of any size they are given, some set fails its read.
 -- refused: so it is with the group at the place that 12 gives, and that is the lowest with too many.
-pub record Demand3 (st : State) (s reads : List ℕ) (out_size schedule_size : ℕ) (answer : Answer) (out schedule : List ℕ) : Type 0 where
+pub record Demand3 (st : State) (s reads : List ℕ) (out_size schedule_size : ℕ) (answer : Result Answer Refusal) (out schedule : List ℕ) : Type 0 where
   pub exactly : RightForm st (length s) reads out_size schedule_size → NamedRowsFull st reads
       → ServedCycle st s reads answer out schedule ↔ NoneTooMany st.shape reads
-  pub served : answer ≡ Served → ServedCycle st s reads answer out schedule
-  pub yields : answer ≡ Served → (n : ℕ) → n < read_count reads → Yields st.shape.k st.shape.p (opened (line schedule n)) (symbol reads n)
-  pub once : answer ≡ Served → OpenedOnce reads schedule
+  pub served : answer ≡ Ok Served → ServedCycle st s reads answer out schedule
+  pub yields : answer ≡ Ok Served → (n : ℕ) → n < read_count reads → Yields st.shape.k st.shape.p (opened (line schedule n)) (symbol reads n)
+  pub once : answer ≡ Ok Served → OpenedOnce reads schedule
   pub limit : 1 ≤ st.shape.p → (x : ℕ) → LimitFor st.shape.k st.shape.p (reads_in reads x)
-  pub refused : (x : ℕ) → answer ≡ Refused 12 x → TooMany st.shape reads x
+  pub refused : (x : ℕ) → answer ≡ refused reason.TooManyReads x → TooMany st.shape reads x

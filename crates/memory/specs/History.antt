@@ -1,9 +1,7 @@
 -- Histories: what a memory holds after any operations, each with the state and the store that the one before left.
-use Rattle.std.specs.Prelude.{◌≡◌, Bool, true, false, cond, ◌&&◌, not, List, [], ◌∷◌, ℕ, ◌+◌, ◌*◌, ◌<◌, eqb, length}
+use Rattle.std.specs.Prelude.{◌≡◌, Bool, true, false, cond, ◌&&◌, not, List, [], ◌∷◌, ℕ, ◌+◌, ◌*◌, ◌<◌, eqb, length, Ok}
 use Rattle.bits.specs.Marks.{marked, how_many}
-use Rattle.refusals.specs.declared.Verdict.{Verdict}
-use Rattle.refusals.specs.declared.Verdict.TheVariants.{Accepted}
-use Rattle.refusals.specs.Verdict.{if_refused}
+use Rattle.refusals.specs.Verdict.{Verdict, Accepted, answer_by, if_refused}
 use Rattle.cells.specs.Cell.{cell}
 use Rattle.simplex.specs.Code.{bank_cell}
 use Rattle.audit.specs.Plan.{opened}
@@ -20,7 +18,7 @@ use Rattle.reads.specs.Refusals.{list_refusal}
 use Rattle.cycle.specs.Cycle.{xor_of_cells}
 use Rattle.cycle.specs.Served.{line}
 use Rattle.memory.specs.State.{is_full, full_rows, Sound}
-use Rattle.memory.specs.Operations.{set_up_of, answer_by, write_checks, write_outcome, write_store, update_checks, update_outcome, update_store, release_checks, release_outcome, release_set_checks, release_set_outcome, cycle_outcome, cycle_output, cycle_schedule}
+use Rattle.memory.specs.Operations.{set_up_of, write_checks, write_outcome, write_store, update_checks, update_outcome, update_store, release_checks, release_outcome, release_set_checks, release_set_outcome, cycle_outcome, cycle_output, cycle_schedule}
 
 -- What may be asked of a memory: a write of a generation to a row, an update of one packet of a row, a release of a row or of a row set, a read cycle with
 -- its list and its buffers.
@@ -174,7 +172,7 @@ pub record Remembers (sh : Shape) (history : History) (memory : Memory) : Type 0
       ≡ answer_by (told_by operation (how_many (full_in sh (operation ∷ history)) sh.g)) (verdict_in sh (full_in sh history) operation)
   pub updates : (row x i : ℕ) (packet : List ℕ) → verdict_in sh (full_in sh history) (update row x i packet) ≡ Accepted
       → UpdatedIn sh history memory row x i packet
-  pub returns : (reads out schedule : List ℕ) → (outcome_of memory (read reads out schedule)).answer ≡ Served → (n : ℕ) → n < read_count reads
+  pub returns : (reads out schedule : List ℕ) → (outcome_of memory (read reads out schedule)).answer ≡ Ok Served → (n : ℕ) → n < read_count reads
       → (full_in sh history (row reads n) ≡ true) × Returned sh memory reads out schedule n (last_written sh history (row reads n))
 
 -- So it is after every history, from an accepted set-up and any store of the right length.

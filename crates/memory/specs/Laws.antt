@@ -1,13 +1,14 @@
 -- The laws of a memory, for any shape, state, store and generation.
-use Rattle.std.specs.Prelude.{◌≡◌, ◌≢◌, ◌↔◌, Bool, true, false, cond, not, List, [], ◌∷◌, ℕ, suc, ◌+◌, ◌^◌, ◌≤◌, ◌<◌, eqb, leb, length}
+use Rattle.std.specs.Prelude.{◌≡◌, ◌≢◌, ◌↔◌, Bool, true, false, cond, not, List, [], ◌∷◌, ℕ, suc, ◌+◌, ◌^◌, ◌≤◌, ◌<◌, eqb, leb, length, Ok, Err}
+use Rattle.refusals.specs.declared.Refusal.{Refusal}
 use Rattle.bits.specs.Bits.{bit}
 use Rattle.bits.specs.Marks.{marked, how_many}
-use Rattle.refusals.specs.declared.Verdict.{Verdict}
-use Rattle.refusals.specs.declared.Verdict.TheVariants.{Accepted, Refused}
+use Rattle.refusals.specs.declared.Reason.TheVariants as reason
+use Rattle.refusals.specs.Verdict.{Verdict, Accepted, refused}
 use Rattle.rows.specs.Rows.{PacketOf}
 use Rattle.rows.specs.Laws.{Written, Updated}
 use Rattle.memory.specs.declared.State.{State}
-use Rattle.memory.specs.declared.Answer.TheVariants.{FullRows, Refused as NotDone}
+use Rattle.memory.specs.declared.Answer.TheVariants.{FullRows}
 use Rattle.layout.specs.Shape.{most_rows, store_size}
 use Rattle.memory.specs.State.{is_full, full_rows, sound, Sound}
 use Rattle.memory.specs.Operations.{write_refusal, write_outcome, write_store, update_refusal, update_outcome, update_store, release_refusal, release_outcome, release_set_refusal, release_set_outcome}
@@ -23,12 +24,12 @@ pub record RightUpdate (st : State) (size row x i len : ℕ) : Type 0 where
 
 -- What refuses it, where the state is not broken: each condition by its number, where those before it are not met; always with place 0.
 pub record WrongUpdate (st : State) (size row x i len : ℕ) (verdict : Verdict) : Type 0 where
-  pub six : size ≢ store_size st.shape → verdict ≡ Refused 6 0
-  pub seven : size ≡ store_size st.shape → st.shape.g ≤ row → verdict ≡ Refused 7 0
-  pub fourteen : size ≡ store_size st.shape → row < st.shape.g → st.shape.m ≤ x → verdict ≡ Refused 14 0
-  pub fifteen : size ≡ store_size st.shape → row < st.shape.g → x < st.shape.m → st.shape.k ≤ i → verdict ≡ Refused 15 0
-  pub nine : size ≡ store_size st.shape → PacketOf st.shape row x i → is_full st row ≡ false → verdict ≡ Refused 9 0
-  pub ten : size ≡ store_size st.shape → PacketOf st.shape row x i → is_full st row ≡ true → len ≢ st.shape.p → verdict ≡ Refused 10 0
+  pub six : size ≢ store_size st.shape → verdict ≡ refused reason.StoreLength 0
+  pub seven : size ≡ store_size st.shape → st.shape.g ≤ row → verdict ≡ refused reason.NoSuchRow 0
+  pub fourteen : size ≡ store_size st.shape → row < st.shape.g → st.shape.m ≤ x → verdict ≡ refused reason.NoSuchGroup 0
+  pub fifteen : size ≡ store_size st.shape → row < st.shape.g → x < st.shape.m → st.shape.k ≤ i → verdict ≡ refused reason.NoSuchSymbol 0
+  pub nine : size ≡ store_size st.shape → PacketOf st.shape row x i → is_full st row ≡ false → verdict ≡ refused reason.EmptyRow 0
+  pub ten : size ≡ store_size st.shape → PacketOf st.shape row x i → is_full st row ≡ true → len ≢ st.shape.p → verdict ≡ refused reason.PacketsLength 0
 
 -- The row is empty in the one state and full in the other, and all else is the same: so the other has one full row more.
 pub record OneMore (row : ℕ) (fewer more : State) : Type 0 where
@@ -85,26 +86,26 @@ ReleasedSingly before (row ∷ rows) after =
 pub record TheMemory : Type 0 where
   pub states : (st : State) → (sound st ≡ true) ↔ Sound st
   pub broken : (memory : Memory) → (Sound memory.state → ⊥) → (operation : Operation)
-      → outcome_of memory operation ≡ record { state = memory.state; answer = NotDone 5 0 }
+      → outcome_of memory operation ≡ record { state = memory.state; answer = refused reason.BrokenState 0 }
   pub written : (st : State) (s : List ℕ) (row : ℕ) (generation : List ℕ) → write_refusal st (length s) row (length generation) ≡ Accepted
       → Written st.shape row generation s (write_store st s row generation) × OneMore row st (write_outcome st (length s) row (length generation)).state
   pub update_accepted : (st : State) (size row x i len : ℕ) → (update_refusal st size row x i len ≡ Accepted) ↔ RightUpdate st size row x i len
   pub update_refused : (st : State) (size row x i len : ℕ) → Sound st → WrongUpdate st size row x i len (update_refusal st size row x i len)
   pub updated : (st : State) (s : List ℕ) (row x i : ℕ) (packet : List ℕ) → update_refusal st (length s) row x i (length packet) ≡ Accepted
       → Updated st.shape row x i packet s (update_store st s row x i packet)
-      × (update_outcome st (length s) row x i (length packet) ≡ record { state = st; answer = FullRows (full_rows st) })
-  pub update_kept : (st : State) (s : List ℕ) (row x i : ℕ) (packet : List ℕ) (number place : ℕ)
-      → update_refusal st (length s) row x i (length packet) ≡ Refused number place
+      × (update_outcome st (length s) row x i (length packet) ≡ record { state = st; answer = Ok (FullRows (full_rows st)) })
+  pub update_kept : (st : State) (s : List ℕ) (row x i : ℕ) (packet : List ℕ) (refusal : Refusal)
+      → update_refusal st (length s) row x i (length packet) ≡ Err refusal
       → (update_store st s row x i packet ≡ s)
-      × (update_outcome st (length s) row x i (length packet) ≡ record { state = st; answer = NotDone number place })
+      × (update_outcome st (length s) row x i (length packet) ≡ record { state = st; answer = Err refusal })
   pub released : (st : State) (row : ℕ) → release_refusal st row ≡ Accepted → OneMore row (release_outcome st row).state st
   pub set_released : (st : State) (set : ℕ) → set < 2 ^ most_rows → release_set_refusal st set ≡ Accepted
       → Emptied set st (release_set_outcome st set).state
-  pub empty_set : (st : State) → Sound st → release_set_outcome st 0 ≡ record { state = st; answer = FullRows (full_rows st) }
+  pub empty_set : (st : State) → Sound st → release_set_outcome st 0 ≡ record { state = st; answer = Ok (FullRows (full_rows st)) }
   pub seven : (st : State) (set r : ℕ) → Sound st
-      → (release_set_refusal st set ≡ Refused 7 r) ↔ FirstRow set (λ i. leb st.shape.g i) r
+      → (release_set_refusal st set ≡ refused reason.NoSuchRow r) ↔ FirstRow set (λ i. leb st.shape.g i) r
   pub nine : (st : State) (set r : ℕ) → Sound st
-      → (release_set_refusal st set ≡ Refused 9 r) ↔ (NoRow set (λ i. leb st.shape.g i) × FirstRow set (λ i. not (is_full st i)) r)
+      → (release_set_refusal st set ≡ refused reason.EmptyRow r) ↔ (NoRow set (λ i. leb st.shape.g i) × FirstRow set (λ i. not (is_full st i)) r)
   pub singly : (st after : State) (set : ℕ) (rows : List ℕ) → Sound st → set < 2 ^ most_rows → Names set rows
       → ReleasedSingly st rows after ↔ ((release_set_refusal st set ≡ Accepted) × ((release_set_outcome st set).state ≡ after))
   pub named : (set : ℕ) → (rows : List ℕ) × Names set rows

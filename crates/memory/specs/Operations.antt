@@ -1,9 +1,9 @@
 -- Set-up, write, packet update, release of a row or of a row set, and the read cycle: when each is refused, what it answers, and what state, store and buffers it leaves.
 use Rattle.std.specs.Prelude.{Bool, not, ◌||◌, List, ℕ, eqb, ltb, length}
 use Rattle.bits.specs.Marks.{marked}
-use Rattle.refusals.specs.declared.Verdict.{Verdict}
-use Rattle.refusals.specs.declared.Verdict.TheVariants.{Accepted, Refused}
-use Rattle.refusals.specs.Verdict.{check, ◌then◌, if_refused, first_refusal}
+use Rattle.refusals.specs.declared.Reason.{Reason}
+use Rattle.refusals.specs.declared.Reason.TheVariants as reason
+use Rattle.refusals.specs.Verdict.{Verdict, check, answer_by, ◌then◌, if_refused, first_refusal}
 use Rattle.layout.specs.declared.Shape.{Shape}
 use Rattle.rows.specs.Rows.{row_written, packet_updated}
 use Rattle.reads.specs.Refusals.{packet_refusal, list_refusal}
@@ -11,19 +11,13 @@ use Rattle.cycle.specs.Cycle.{packets_out, lines_out}
 use Rattle.memory.specs.declared.State.{State}
 use Rattle.memory.specs.declared.SetUp.{SetUp}
 use Rattle.memory.specs.declared.Outcome.{Outcome}
-use Rattle.memory.specs.declared.Answer.{Answer}
-use Rattle.memory.specs.declared.Answer.TheVariants.{FullRows, Served, Refused as NotDone}
+use Rattle.memory.specs.declared.Answer.TheVariants.{FullRows, Served}
 use Rattle.layout.specs.Shape.{most_rows, shape_refusal, store_size, generation_size}
 use Rattle.memory.specs.State.{is_full, full_rows, sound, empty, zero_state, row_toggled, rows_emptied}
 
 -- What set-up gives: a memory of that shape with every row empty, or a refusal and a state of zeros.
 abbrev pub set_up_of : Shape → SetUp
 set_up_of sh = record { state = if_refused zero_state (empty sh) (shape_refusal sh); verdict = shape_refusal sh }
-
--- An operation's answer: a refusal, or what it tells where it is accepted.
-abbrev pub answer_by : Answer → Verdict → Answer
-answer_by told Accepted = told
-answer_by told (Refused number place) = NotDone number place
 
 -- What an operation gives that makes one state into another: refused, the state as it was and the refusal; else the state made, and the number of
 -- its full rows.
@@ -32,13 +26,13 @@ outcome_by before after verdict = record { state = if_refused before after verdi
 
 -- Where a store is lent. 5, the state is broken. 6, the store's length is wrong.
 abbrev pub store_refusal : State → ℕ → Verdict
-store_refusal st size = check 5 0 (sound st) then check 6 0 (eqb size (store_size st.shape))
+store_refusal st size = check reason.BrokenState 0 (sound st) then check reason.StoreLength 0 (eqb size (store_size st.shape))
 
 -- ---- write
 
 -- With these rows full. 7, the row is G or more. 8, the row is full. 10, the generation isn't m·K·P bytes.
 abbrev pub write_checks : Shape → (full : ℕ → Bool) → (row len : ℕ) → Verdict
-write_checks sh full row len = check 7 0 (ltb row sh.g) then check 8 0 (not (full row)) then check 10 0 (eqb len (generation_size sh))
+write_checks sh full row len = check reason.NoSuchRow 0 (ltb row sh.g) then check reason.FullRow 0 (not (full row)) then check reason.PacketsLength 0 (eqb len (generation_size sh))
 
 -- 5 and 6; then 7, 8, 10.
 unfoldable pub write_refusal : State → (size row len : ℕ) → Verdict
@@ -55,7 +49,7 @@ write_store st s row generation = if_refused s (row_written st.shape row generat
 -- With these rows full. 7, the row is G or more. 14, the group is m or more. 15, the symbol is K or more. 9, the row is empty. 10, the packet isn't P
 -- bytes.
 abbrev pub update_checks : Shape → (full : ℕ → Bool) → (row x i len : ℕ) → Verdict
-update_checks sh full row x i len = packet_refusal sh full 0 row x i then check 10 0 (eqb len sh.p)
+update_checks sh full row x i len = packet_refusal sh full 0 row x i then check reason.PacketsLength 0 (eqb len sh.p)
 
 -- 5 and 6; then 7, 14, 15, 9, 10.
 unfoldable pub update_refusal : State → (size row x i len : ℕ) → Verdict
@@ -72,28 +66,28 @@ update_store st s row x i packet = if_refused s (packet_updated st.shape row x i
 
 -- 7, the row is G or more. 9, the row is empty.
 abbrev pub release_checks : Shape → (full : ℕ → Bool) → (row : ℕ) → Verdict
-release_checks sh full row = check 7 0 (ltb row sh.g) then check 9 0 (full row)
+release_checks sh full row = check reason.NoSuchRow 0 (ltb row sh.g) then check reason.EmptyRow 0 (full row)
 
 -- 5, the state is broken; then 7, 9.
 unfoldable pub release_refusal : State → (row : ℕ) → Verdict
-release_refusal st row = check 5 0 (sound st) then release_checks st.shape (is_full st) row
+release_refusal st row = check reason.BrokenState 0 (sound st) then release_checks st.shape (is_full st) row
 
 abbrev pub release_outcome : State → ℕ → Outcome
 release_outcome st row = outcome_by st (row_toggled st row) (release_refusal st row)
 
 -- ---- release of a row set (02: clearing several rows): row r's mark is bit r of the set. Marks from the 64th on, which no word has, count for nothing.
 
--- Accepted where every row of a set passes a test; else refused with this number, and the first row that doesn't as place.
-unfoldable pub each_row : (number set : ℕ) → (test : ℕ → Bool) → Verdict
-each_row number set test = first_refusal (λ r. check number r (not (marked set r) || test r)) most_rows
+-- Accepted where every row of a set passes a test; else refused for this reason, with the first row that doesn't as place.
+unfoldable pub each_row : (why : Reason) → (set : ℕ) → (test : ℕ → Bool) → Verdict
+each_row why set test = first_refusal (λ r. check why r (not (marked set r) || test r)) most_rows
 
 -- 7, a marked row is G or more. Then 9, a marked row is empty.
 abbrev pub release_set_checks : Shape → (full : ℕ → Bool) → (set : ℕ) → Verdict
-release_set_checks sh full set = each_row 7 set (λ r. ltb r sh.g) then each_row 9 set full
+release_set_checks sh full set = each_row reason.NoSuchRow set (λ r. ltb r sh.g) then each_row reason.EmptyRow set full
 
 -- 5, the state is broken; then 7, 9.
 unfoldable pub release_set_refusal : State → (set : ℕ) → Verdict
-release_set_refusal st set = check 5 0 (sound st) then release_set_checks st.shape (is_full st) set
+release_set_refusal st set = check reason.BrokenState 0 (sound st) then release_set_checks st.shape (is_full st) set
 
 abbrev pub release_set_outcome : State → (set : ℕ) → Outcome
 release_set_outcome st set = outcome_by st (rows_emptied st set) (release_set_refusal st set)

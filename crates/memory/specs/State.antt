@@ -2,7 +2,7 @@
 use Rattle.std.specs.Prelude.{◌≡◌, Bool, false, ◌&&◌, not, ℕ, ◌≤◌}
 use Rattle.bits.specs.Marks.{marked, toggled, none_from, how_many}
 use Rattle.bits.specs.Sets.{set_of}
-use Rattle.refusals.specs.Verdict.{passed}
+use Rattle.std.specs.Result.{is_ok}
 use Rattle.layout.specs.declared.Shape.{Shape}
 use Rattle.memory.specs.declared.State.{State}
 use Rattle.layout.specs.Shape.{most_rows, shape_refusal, InRange}
@@ -17,7 +17,7 @@ full_rows st = how_many (is_full st) st.shape.g
 
 -- Whether a state is not broken: it keeps set-up's ranges and marks no row from G on as full.
 unfoldable pub sound : State → Bool
-sound st = passed (shape_refusal st.shape) && none_from st.full st.shape.g
+sound st = is_ok (shape_refusal st.shape) && none_from st.full st.shape.g
 
 -- The same in words.
 pub record Sound (st : State) : Type 0 where

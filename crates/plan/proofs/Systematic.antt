@@ -1,16 +1,15 @@
 -- Where no symbol is read more than once, the systematic banks are a plan, and each read opens one bank.
 use mathlib.Core.Path.{◌≡◌, refl, sym, ap, ◌∙◌, subst}
 use mathlib.Core.Logic.{⊎_elim}
-use mathlib.Core.Bool.{Bool, true, false}
+use mathlib.Core.Bool.{true}
 use mathlib.Core.List.{List, [], ◌∷◌, map}
 use Prim.Native.Nat.{ℕ, zero, suc, ◌+◌, ◌-◌, ◌^◌, ◌≤◌, ◌<◌}
 use native.Mathlib.Nat.{le_refl}
-use native.Mathlib.Omega.{arith, by_contra, ne_cases}
-use native.Mathlib.Decide.{ℕ_discrete, dec_lt}
+use native.Mathlib.Omega.{arith, by_contra}
 use borrow.Author.Tests.{le-leb, leb-true}
 use lib.Bits.{xor_zero_r}
 use lib.Dec.{leb}
-use lib.ListN.{length, get_or, length-map, get_or-eq_default}
+use lib.ListN.{length, get_or, length-map}
 use lib.Pow.{pow_pos, pow-lt, le_ones}
 use Rattle.bits.proofs.Bits.{below_power}
 use Rattle.refusals.proofs.Verdicts.{both}
@@ -34,21 +33,6 @@ free_words [] e i = omega arith
 free_words (c ∷ counts) e zero = leb-true c 1 ((both (leb c 1) (collision_free counts)).0 e).0
 free_words (c ∷ counts) e (suc i) = free_words counts ((both (leb c 1) (collision_free counts)).0 e).1 i
 
-pub collides : (counts : List ℕ) (i : ℕ) → 1 < get_or counts i 0 → collision_free counts ≡ false
-collides counts i more = go (collision_free counts) refl
-  where
-    go : (t : Bool) → collision_free counts ≡ t → collision_free counts ≡ false
-    go false e = e
-    go true e = absurd (omega (arith, free_words counts e i))
-
--- every count of a request vector is looked at
-pub free_below : (counts : List ℕ) (n : ℕ) → length counts ≤ n → ((i : ℕ) → i < n → get_or counts i 0 ≤ 1) → CollisionFree counts
-free_below counts n all each i = go (dec_lt i n)
-  where
-    go : Dec (i < n) → get_or counts i 0 ≤ 1
-    go (yes l) = each i l
-    go (no f) = omega (arith, get_or-eq_default counts 0 {n = i} (omega arith))
-
 -- ---- the plan
 
 module _ (counts : List ℕ) where
@@ -70,11 +54,10 @@ serves K i l = record {
 
 -- two systematic banks that are one are of one symbol
 same_symbol : (i j : ℕ) → 2 ^ i ≡ 2 ^ j → i ≡ j
-same_symbol i j e = go (ℕ_discrete i j)
-  where
-    go : Dec (i ≡ j) → i ≡ j
-    go (yes s) = s
-    go (no n) = ne_cases i j (i ≡ j) n (λ l. absurd (omega (arith, pow-lt l))) (λ l. absurd (omega (arith, pow-lt l)))
+same_symbol i j e =
+    let up : i < j → ⊥ = λ l. omega (arith, pow-lt l) in
+    let down : j < i → ⊥ = λ l. omega (arith, pow-lt l) in
+    omega arith
 
 module _ (K : ℕ) (counts : List ℕ) (request : RequestOf K counts) (free : CollisionFree counts) where
   symbol_less : (i j : ℕ) → j < get_or counts i 0 → i < K

@@ -2,10 +2,9 @@
 use Rattle.std.specs.Prelude.{◌≡◌, ◌↔◌, true, List, [], ◌∷◌, map, ℕ, ◌^◌, ◌≤◌, length}
 use Rattle.simplex.specs.Shape.{most_symbols, limit_of}
 use Rattle.simplex.specs.Limit.{total, reads_of, Servable}
-use Rattle.refusals.specs.declared.Verdict.TheVariants.{Accepted}
+use Rattle.refusals.specs.Verdict.{Accepted}
 use Rattle.audit.specs.Plan.{opened, is_plan}
-use Rattle.audit.specs.declared.Audited.TheVariants.{Yes}
-use Rattle.audit.specs.Audit.{RequestOf, pair_bytes, audit_of}
+use Rattle.audit.specs.Audit.{RequestOf, pair_bytes, Yes, audit_of}
 use Rattle.plan.specs.Systematic.{CollisionFree, collision_free, systematic_plan}
 use Rattle.plan.specs.Renaming.{RenamedPlan}
 use Rattle.plan.specs.Finding.{plan_of}
@@ -22,7 +21,7 @@ pub record WithinLimit (K : ℕ) (counts : List ℕ) : Type 0 where
 -- words: the test for collisions passes exactly the counts of which none is above 1.
 -- fits: a request of such counts is within the limit.
 -- systematic, one_bank: of such counts `plan_of` has for each read the systematic bank by itself, so the read opens that one bank. This holds for
--- every K, and of counts that are refused too (the answer then has no pairs).
+-- every K, and of counts that are refused too.
 -- renaming: from a plan for some counts comes one for all counts that ask no more of each symbol, under any other names of the symbols.
 pub record ThePlanner : Type 0 where
   pub exactly : (K : ℕ) (counts : List ℕ) → length counts ≡ most_symbols → (plan_refusal K counts ≡ Accepted) ↔ WithinLimit K counts

@@ -1,20 +1,19 @@
 -- What the planner answers.
-use Rattle.std.specs.Prelude.{◌≡◌, List, [], ℕ, leb, length, get_or}
-use Rattle.refusals.specs.declared.Verdict.{Verdict}
-use Rattle.refusals.specs.Verdict.{check, ◌then◌, if_refused}
+use Rattle.std.specs.Prelude.{◌≡◌, List, ℕ, leb, length, get_or, Result}
+use Rattle.refusals.specs.declared.Refusal.{Refusal}
+use Rattle.refusals.specs.declared.Reason.TheVariants as reason
+use Rattle.refusals.specs.Verdict.{Verdict, check, answer_by, ◌then◌}
 use Rattle.simplex.specs.Shape.{most_pairs, limit_of}
 use Rattle.simplex.specs.Limit.{total}
-use Rattle.audit.specs.declared.Audited.TheVariants.{Yes}
 use Rattle.audit.specs.Plan.{Pair, pair_at}
-use Rattle.audit.specs.Audit.{counts_refusal, pair_bytes, audit_of}
+use Rattle.audit.specs.Audit.{counts_refusal, pair_bytes, Yes, audit_of}
 use Rattle.table.specs.Grouped.{list_of}
 use Rattle.plan.specs.declared.Plan.{Plan}
-use Rattle.plan.specs.declared.Planned.{Planned}
 use Rattle.plan.specs.Finding.{plan_of}
 
 -- The refusals of a plan: 1 and 11 as of every request vector; 12, the counts total more than 2^(K-1).
 unfoldable pub plan_refusal : ℕ → List ℕ → Verdict
-plan_refusal K counts = counts_refusal K counts then check 12 0 (leb (total counts) (limit_of K))
+plan_refusal K counts = counts_refusal K counts then check reason.TooManyReads 0 (leb (total counts) (limit_of K))
 
 -- One bank of each pair, in an array of sixteen: places after the last pair hold 0.
 abbrev pub column : (Pair → ℕ) → List Pair → List ℕ
@@ -24,9 +23,9 @@ column bank pairs = list_of (λ n. bank (pair_at pairs n)) 0 most_pairs
 abbrev pub stored : List Pair → Plan
 stored pairs = record { first = column (λ p. p.a) pairs; second = column (λ p. p.b) pairs; len = length pairs }
 
--- What the planner answers: the verdict, and the pairs of the plan; none where it is refused.
-unfoldable pub plan_answer : ℕ → List ℕ → Planned
-plan_answer K counts = let verdict = plan_refusal K counts in record { verdict = verdict; plan = stored (if_refused [] (plan_of K counts) verdict) }
+-- What the planner answers: a refusal, which has no pairs, or the plan.
+unfoldable pub plan_answer : ℕ → List ℕ → Result Plan Refusal
+plan_answer K counts = answer_by (stored (plan_of K counts)) (plan_refusal K counts)
 
 -- The pairs of a plan, read from its arrays.
 abbrev pub pairs_in : Plan → List Pair

@@ -7,8 +7,7 @@ use native.Mathlib.Nat.{le_trans}
 use borrow.Author.Tests.{ltb-true, leb-true, eqb-true, lt-ltb, le-leb, eq-eqb}
 use lib.Dec.{eqb}
 use lib.ListN.{length}
-use Rattle.refusals.specs.declared.Verdict.TheVariants.{Accepted}
-use Rattle.refusals.specs.Verdict.{first_refusal}
+use Rattle.refusals.specs.Verdict.{Accepted, first_refusal}
 use Rattle.refusals.proofs.Verdicts.{checks, all_accepted, accepted_all, first_same, both}
 use Rattle.simplex.specs.Shape.{most_pairs}
 use Rattle.simplex.specs.Limit.{total}

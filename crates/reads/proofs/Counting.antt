@@ -49,7 +49,7 @@ ordinal_less reads n l s =
 
 -- ---- the counts of a group are a request vector
 
-not_for : (reads : List ℕ) (x i n : ℕ) → (symbol reads n ≡ i → ⊥) → is_for reads x i n ≡ false
+pub not_for : (reads : List ℕ) (x i n : ℕ) → (symbol reads n ≡ i → ⊥) → is_for reads x i n ≡ false
 not_for reads x i n h = rw (ne_eqb (symbol reads n) i h) (and-false (eqb (group reads n) x))
 
 pub request : (K : ℕ) (reads : List ℕ) (x : ℕ) → SymbolsInRange K → ((n : ℕ) → n < read_count reads → symbol reads n < K)

@@ -1,7 +1,6 @@
 -- The laws that the proofs of this crate, and of those above it, cite.
 pub mod Counting
+pub mod Taking
 pub mod Grids
-pub mod Judged
 pub mod Accepted
 pub mod Refused
-pub mod Sizes

@@ -1,6 +1,6 @@
 -- What holds of every list of reads.
 use Rattle.std.specs.Prelude.{◌≡◌, ◌↔◌, Bool, List, [], ℕ, ◌≤◌, ◌<◌, length, get_or}
-use Rattle.refusals.specs.declared.Verdict.TheVariants.{Accepted}
+use Rattle.refusals.specs.Verdict.{Accepted}
 use Rattle.simplex.specs.Shape.{most_symbols}
 use Rattle.simplex.specs.Limit.{total}
 use Rattle.layout.specs.declared.Shape.{Shape}

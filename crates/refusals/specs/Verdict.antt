@@ -1,32 +1,72 @@
--- How the refusal of an operation is said: a list of checks, of which the first that is not passed gives its number and place.
-use Rattle.std.specs.Prelude.{Bool, true, false, ◌&&◌, ℕ, zero, suc, leb}
-use Rattle.refusals.specs.declared.Verdict.{Verdict}
-use Rattle.refusals.specs.declared.Verdict.TheVariants.{Accepted, Refused}
+-- How the refusal of an operation is said: a list of checks, of which the first that is not passed gives its reason and place.
+use Rattle.std.specs.Prelude.{Bool, true, false, ◌&&◌, ℕ, zero, suc, leb, Result, Ok, Err}
+use Rattle.refusals.specs.declared.Refusal.{Refusal}
+use Rattle.refusals.specs.declared.Reason.{Reason}
+use Rattle.refusals.specs.declared.Reason.TheVariants as reason
+
+-- Accepted, or refused.
+abbrev pub Verdict : Type 0
+Verdict = Result (Unit {0}) Refusal
+
+pattern abbrev pub Accepted : Verdict
+Accepted = Ok tt
+
+-- Refused for this reason, at this place.
+abbrev pub refused : {A : Type 0} (reason : Reason) (place : ℕ) → Result A Refusal
+refused r place = Err (record { reason = r; place = place })
+
+-- The number of the refusals for a reason.
+abbrev pub number_of : Reason → ℕ
+number_of reason.SymbolsOutOfRange = 1
+number_of reason.GroupsOutOfRange = 2
+number_of reason.PacketSizeOutOfRange = 3
+number_of reason.RowsOutOfRange = 4
+number_of reason.BrokenState = 5
+number_of reason.StoreLength = 6
+number_of reason.NoSuchRow = 7
+number_of reason.FullRow = 8
+number_of reason.EmptyRow = 9
+number_of reason.PacketsLength = 10
+number_of reason.ForeignCount = 11
+number_of reason.TooManyReads = 12
+number_of reason.ListLength = 13
+number_of reason.NoSuchGroup = 14
+number_of reason.NoSuchSymbol = 15
+number_of reason.BufferLengths = 16
+number_of reason.NoHexadecimal = 17
+number_of reason.UnknownFrame = 18
+number_of reason.NoMemory = 19
+number_of reason.StoreTooLarge = 20
 
 -- Whether n is from low to high.
 abbrev pub between : (low high n : ℕ) → Bool
 between low high n = leb low n && leb n high
 
--- The refusal with this number and place, unless the test is passed.
-abbrev pub check : (number place : ℕ) → Bool → Verdict
-check number place true = Accepted
-check number place false = Refused number place
-
--- Whether it is accepted.
-abbrev pub passed : Verdict → Bool
-passed Accepted = true
-passed (Refused number place) = false
+-- The refusal for this reason, at this place, unless the test is passed.
+abbrev pub check : (reason : Reason) (place : ℕ) → Bool → Verdict
+check r place true = Accepted
+check r place false = refused r place
 
 -- The first where the verdict is a refusal, else the second.
-abbrev pub if_refused : {A : Type 0} → (refused accepted : A) → Verdict → A
-if_refused refused accepted Accepted = accepted
-if_refused refused accepted (Refused number place) = refused
+abbrev pub if_refused : {A : Type 0} → (before after : A) → Verdict → A
+if_refused before after Accepted = after
+if_refused before after (Err refusal) = before
+
+-- What is answered by this verdict: the value, or the refusal.
+abbrev pub answer_by : {A : Type 0} → A → Verdict → Result A Refusal
+answer_by value Accepted = Ok value
+answer_by value (Err refusal) = Err refusal
+
+-- Whether an answer is a refusal, and which.
+abbrev pub verdict_of : {A : Type 0} → Result A Refusal → Verdict
+verdict_of (Ok value) = Accepted
+verdict_of (Err refusal) = Err refusal
 
 infixr 20 ◌then◌
 -- The first refusal of the two.
 abbrev pub ◌then◌ : Verdict → Verdict → Verdict
 Accepted then next = next
-Refused number place then next = Refused number place
+Err refusal then next = Err refusal
 
 -- The first refusal of f 0, f 1, .., f (n - 1).
 abbrev pub first_refusal : (ℕ → Verdict) → ℕ → Verdict

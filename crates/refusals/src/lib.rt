@@ -1,14 +1,98 @@
-// How an operation says no.
+// How an operation says no: the reasons, a refusal with its place, and a check that gives it.
 #![tactic(auto)]
 
 ghost use Rattle.std.specs.Prelude.{◌≡◌};
-ghost use Rattle.refusals.specs.Verdict.{between};
+ghost use Rattle.refusals.specs.Verdict.{between, number_of, refused, check};
 
-// Accepted, or refused with the refusal's number and place.
-#[derive(Clone, Copy)]
-pub enum Verdict {
-    Accepted,
-    Refused(u8, usize),
+use std::fmt;
+
+// Why an operation says no, in the order of the refusals' numbers, from 1 to 20.
+#[derive(Clone, Copy, Debug, PartialEq, Eq)]
+pub enum Reason {
+    SymbolsOutOfRange,
+    GroupsOutOfRange,
+    PacketSizeOutOfRange,
+    RowsOutOfRange,
+    BrokenState,
+    StoreLength,
+    NoSuchRow,
+    FullRow,
+    EmptyRow,
+    PacketsLength,
+    ForeignCount,
+    TooManyReads,
+    ListLength,
+    NoSuchGroup,
+    NoSuchSymbol,
+    BufferLengths,
+    NoHexadecimal,
+    UnknownFrame,
+    NoMemory,
+    StoreTooLarge,
+}
+
+// A refusal: its reason and its place.
+#[derive(Clone, Copy, Debug, PartialEq, Eq)]
+pub struct Refusal {
+    pub reason: Reason,
+    pub place: usize,
+}
+
+// Accepted, or refused.
+pub type Verdict = Result<(), Refusal>;
+
+impl Reason {
+    // The number of a refusal for this reason.
+    pub fn number(self) -> u8
+        ensures { result ≡ number_of self }
+    {
+        match self {
+            Reason::SymbolsOutOfRange => 1,
+            Reason::GroupsOutOfRange => 2,
+            Reason::PacketSizeOutOfRange => 3,
+            Reason::RowsOutOfRange => 4,
+            Reason::BrokenState => 5,
+            Reason::StoreLength => 6,
+            Reason::NoSuchRow => 7,
+            Reason::FullRow => 8,
+            Reason::EmptyRow => 9,
+            Reason::PacketsLength => 10,
+            Reason::ForeignCount => 11,
+            Reason::TooManyReads => 12,
+            Reason::ListLength => 13,
+            Reason::NoSuchGroup => 14,
+            Reason::NoSuchSymbol => 15,
+            Reason::BufferLengths => 16,
+            Reason::NoHexadecimal => 17,
+            Reason::UnknownFrame => 18,
+            Reason::NoMemory => 19,
+            Reason::StoreTooLarge => 20,
+        }
+    }
+}
+
+impl fmt::Display for Refusal {
+    fn fmt<W: fmt::Write>(&self, f: &mut fmt::Formatter<W>) -> fmt::Result {
+        write!(f, "refused {}, place {}", self.reason.number(), self.place)
+    }
+}
+
+// Refused for this reason, at this place.
+pub fn refused<T>(reason: Reason, place: usize) -> Result<T, Refusal>
+    ensures { result ≡ refused reason place }
+{
+    Err(Refusal { reason, place })
+}
+
+// Accepted if a test is passed, else refused for this reason, at this place.
+pub fn check(passed: bool, reason: Reason, place: usize) -> Verdict
+    ensures { result ≡ check reason place passed }
+{
+    if passed {
+        Ok(())
+    } else {
+        refused(reason, place)
+    }
 }
 
 // Whether `n` is from `low` to `high`.

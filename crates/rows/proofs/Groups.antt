@@ -1,16 +1,18 @@
 -- What the filling of one group's banks and the update of one of its symbols need; and the turns of the writer.
-use mathlib.Core.Path.{◌≡◌, refl}
+use mathlib.Core.Path.{◌≡◌, refl, sym, ap, ap₂, ◌∙◌}
 use mathlib.Core.List.{List}
-use Prim.Native.Nat.{ℕ, suc, ◌+◌, ◌*◌, ◌^◌, ◌≤◌, ◌<◌}
+use Prim.Native.Nat.{ℕ, ◌+◌, ◌*◌, ◌^◌, ◌≤◌, ◌<◌}
 use native.Mathlib.Nat.{one-mul, mul-le-mul_right}
 use native.Mathlib.Omega.{arith}
+use native.Mathlib.Numerals.{add-one}
 use lib.ListN.{length}
 use lib.Pow.{pow_mono}
-use Rattle.simplex.specs.Filling.{spaced, Fillable}
+use Rattle.cells.specs.Cell.{cell}
+use Rattle.simplex.specs.Filling.{packets_of, spaced, Fillable}
 use Rattle.simplex.specs.Updating.{Updatable}
 use Rattle.layout.specs.declared.Shape.{Shape}
 use Rattle.layout.specs.Shape.{InRange, banks, store_size, CellOf, offset}
-use Rattle.rows.specs.Rows.{group_written, groups_written, packets_in, PacketOf}
+use Rattle.rows.specs.Rows.{group_written, groups_written, PacketOf}
 use Rattle.layout.proofs.Places.{inside, offset_spaced}
 
 pub some_banks : (sh : Shape) → InRange sh → 3 ≤ banks sh
@@ -54,7 +56,11 @@ pub none_written : (sh : Shape) (row : ℕ) (generation s : List ℕ) → s ≡ 
 unfolding groups_written
 none_written sh row generation s = refl
 
-pub one_written : (sh : Shape) (row : ℕ) (generation : List ℕ) (x : ℕ) (s : List ℕ)
-    → group_written sh x row (packets_in sh generation x) (groups_written sh row generation x s) ≡ groups_written sh row generation (x + 1) s
+-- one turn, whose part of the generation is group x's
+pub one_written : (sh : Shape) (row : ℕ) (generation : List ℕ) (x : ℕ) (s now part : List ℕ) → now ≡ groups_written sh row generation x s
+    → part ≡ cell generation (x * (sh.k * sh.p)) (sh.k * sh.p)
+    → group_written sh x row (packets_of sh.p sh.k part) now ≡ groups_written sh row generation (x + 1) s
 unfolding groups_written
-one_written sh row generation x s = let e : x + 1 ≡ suc x = omega arith in rw e
+one_written sh row generation x s now part e same =
+    ap₂ (λ (t packets : List ℕ). group_written sh x row (packets_of sh.p sh.k packets) t) e same
+    ∙ ap (λ (n : ℕ). groups_written sh row generation n s) (sym (add-one x))

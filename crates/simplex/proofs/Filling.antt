@@ -8,7 +8,8 @@ use native.Mathlib.Omega.{arith}
 use lib.ListN.{length, get_or, take, drop, length-drop}
 use lib.Seq.{length-take-le, drop-drop}
 use Rattle.cells.specs.Cell.{cell, Outside, Apart}
-use Rattle.cells.proofs.Cells.{length_put, cell_put, cell_put_out, get_or_put_out}
+use Rattle.cells.proofs.Cells.{length_put, cell_part, cell_put, cell_put_out, get_or_put_out}
+use Rattle.cells.proofs.Steps.{step_more}
 use Rattle.simplex.specs.Shape.{banks_of}
 use Rattle.simplex.specs.Code.{Packet, Sized, bank_cell}
 use Rattle.simplex.specs.Filling.{packets_of, filled, spaced, Room, Holds, Fillable}
@@ -36,6 +37,10 @@ packet_at p (suc k) bytes (suc i) h =
     let e : p + i * p ≡ suc i * p = omega (arith, suc-mul i p) in
     packet_at p k (drop p bytes) i (le_of_suc-le-suc h) ∙ ap (take p) (drop-drop (i * p) p bytes ∙ ap (λ (n : ℕ). drop n bytes) e)
 
+-- and as a part that is lent
+pub packet_part : (p k : ℕ) (bytes : List ℕ) (i : ℕ) → i < k → take ((i + 1) * p - i * p) (drop (i * p) bytes) ≡ get_or (packets_of p k bytes) i []
+packet_part p k bytes i h = rw step_more (cell_part bytes (i * p) p ∙ sym (packet_at p k bytes i h))
+
 -- ---- the banks
 
 -- fewer banks have room where more have
@@ -47,10 +52,6 @@ module _ (P : ℕ) (packets : List Packet) (place : ℕ → ℕ) where
   unfolding filled
   length_filled zero s = refl
   length_filled (suc n) s = length_put (filled P packets place n s) (place (suc n)) (bank_cell P packets (suc n)) ∙ length_filled n s
-
-  pub filled_none : (s : List ℕ) → s ≡ filled P packets place 0 s
-  unfolding filled
-  filled_none s = refl
 
   -- placings that agree on banks 1 to n fill alike
   pub filled_same : (other : ℕ → ℕ) (n : ℕ) (s : List ℕ) → ((b : ℕ) → 1 ≤ b → b ≤ n → place b ≡ other b)
@@ -102,12 +103,6 @@ module _ (P : ℕ) (packets : List Packet) (place : ℕ → ℕ) where
 
 pub spaced_suc : (at step n : ℕ) → spaced at step (suc n) ≡ at + n * step
 spaced_suc at step n = let e : suc n - 1 ≡ n = omega arith in rw e
-
-pub spaced_more : (at step b : ℕ) → 1 ≤ b → spaced at step (b + 1) ≡ spaced at step b + step
-spaced_more at step b l =
-    let e : suc (b - 1) * step ≡ (b - 1) * step + step = suc-mul (b - 1) step in
-    let f : b + 1 - 1 ≡ suc (b - 1) = omega arith in
-    omega (arith, e, ap (λ (n : ℕ). n * step) f)
 
 pub spaced_add : (at step t n : ℕ) → spaced at step (suc t + suc n) ≡ at + t * step + step + n * step
 spaced_add at step t n =

@@ -83,20 +83,20 @@ not_zeros (suc K) (suc P) zero h e = let z : ◌≡◌ {A = ℕ} 0 1 = cc in ome
 not_zeros (suc K) (suc P) (suc i) h e = not_zeros K (suc P) i h e
 
 pub limit_of_reads : LimitOfReads
-limit_of_reads K P reads hP sets many d =
+limit_of_reads K P reads positive sets many d =
     let t = blank K P reads sets many d in (
       t.0,
       t.1,
       record {
         packets = all_ones K P;
         content = all_ones_content K P;
-        wrong = λ e. not_zeros K P (get_or reads t.0 0) hP (sym t.2 ∙ e);
+        wrong = λ e. not_zeros K P (get_or reads t.0 0) positive (sym t.2 ∙ e);
       },
     )
 
 pub the_limit : TheLimit
-the_limit K P counts sets hP many d =
-    limit_of_reads K P (reads_of counts) hP sets (subst (λ (n : ℕ). limit_of K < n) (sym (length_reads counts)) many) d
+the_limit K P counts sets positive many d =
+    limit_of_reads K P (reads_of counts) positive sets (subst (λ (n : ℕ). limit_of K < n) (sym (length_reads counts)) many) d
 
 pub fails_yields : (K P : ℕ) (banks : Banks) (i : ℕ) → Fails K P banks i → Yields K P banks i → ⊥
 fails_yields K P banks i f y = f.wrong (y f.packets f.content)

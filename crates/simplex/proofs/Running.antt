@@ -1,5 +1,5 @@
 -- Running XOR gives the code's banks: a bank with highest symbol h is the bank without it XOR packet h.
-use mathlib.Core.Path.{◌≡◌, refl, sym, ap, ap₂, ◌∙◌}
+use mathlib.Core.Path.{◌≡◌, sym, ap, ap₂, ◌∙◌}
 use mathlib.Core.List.{List, []}
 use Prim.Native.Nat.{ℕ, zero, suc, ◌+◌, ◌^◌, ◌≤◌, ◌<◌}
 use native.Mathlib.Nat.{one-mul, add-zero, add-suc, le_refl, pow-suc}
@@ -26,11 +26,7 @@ bank_top : (P : ℕ) (packets : List Packet) (b h : ℕ) → b < 2 ^ h → h < l
 bank_top P packets b h l q s =
     ap (xor_bytes (bank_cell P packets b)) (sym (cell_one P packets h q s)) ∙ linear P packets b (2 ^ h) s ∙ ap (bank_cell P packets) (top b h l)
 
--- the loop that computes them: before its first turn, and a turn of it
-pub doubled_none : (c : Packet) (place : ℕ → ℕ) (t : ℕ) (s : List ℕ) → s ≡ doubled c place t 0 s
-unfolding doubled
-doubled_none c place t s = refl
-
+-- a turn of the loop that computes them
 pub doubled_more : (c : Packet) (place : ℕ → ℕ) (t n : ℕ) (s l : List ℕ) (from next : ℕ) → l ≡ doubled c place t n s
     → from ≡ place (suc n) → next ≡ place (suc t + suc n)
     → put l next (xor_bytes (cell l from (length c)) c) ≡ doubled c place t (n + 1) s

@@ -53,13 +53,13 @@ module _ (P i : ℕ) (change : Packet) (place : ℕ → ℕ) where
       go true = length_put s at _
       go false = refl
 
-  pub length_changed : (n : ℕ) (s : List ℕ) → length (banks_changed P i change place n s) ≡ length s
+  length_changed : (n : ℕ) (s : List ℕ) → length (banks_changed P i change place n s) ≡ length s
   unfolding banks_changed
   length_changed zero s = refl
   length_changed (suc n) s = one_length (suc n) (place (suc n)) (banks_changed P i change place n s) ∙ length_changed n s
 
   -- placings that agree on banks 1 to n
-  pub changed_same : (other : ℕ → ℕ) (n : ℕ) (s : List ℕ) → ((b : ℕ) → 1 ≤ b → b ≤ n → place b ≡ other b)
+  changed_same : (other : ℕ → ℕ) (n : ℕ) (s : List ℕ) → ((b : ℕ) → 1 ≤ b → b ≤ n → place b ≡ other b)
       → banks_changed P i change place n s ≡ banks_changed P i change other n s
   unfolding banks_changed
   changed_same other zero s same = refl
@@ -102,7 +102,7 @@ module _ (P i : ℕ) (change : Packet) (place : ℕ → ℕ) where
     last_within : (n : ℕ) (s : List ℕ) → Within (suc n) s → place (suc n) + P ≤ length (banks_changed P i change place n s)
     last_within n s w = rw (length_changed n s) (w (suc n) (omega arith) (omega arith))
 
-    pub changed_apart : (n : ℕ) (s : List ℕ) → Within n s → (f : ℕ) → f + P ≤ length s
+    changed_apart : (n : ℕ) (s : List ℕ) → Within n s → (f : ℕ) → f + P ≤ length s
         → ((b : ℕ) → 1 ≤ b → b ≤ n → has_symbol b i ≡ true → Apart P f (place b)) → cell (banks_changed P i change place n s) f P ≡ cell s f P
     unfolding banks_changed
     changed_apart zero s w f k out = refl
@@ -161,51 +161,66 @@ updated_same P i packet place other n s systematic same =
 
 -- ---- the loop that changes them. It leaves the systematic bank to the end: with the new packet there, the store is that after banks 1 to b
 
-module _ (P i : ℕ) (packet : Packet) (place : ℕ → ℕ) (size : length packet ≡ P) (s : List ℕ) where
+-- of the store s as it came, and the store now: the systematic bank still has the old packet
+pub record Turned (P i : ℕ) (packet : Packet) (place : ℕ → ℕ) (s : List ℕ) (b : ℕ) (now : List ℕ) : Type 0 where
+  pub old : cell now (place (2 ^ i)) P ≡ cell s (place (2 ^ i)) P
+  pub changed : put now (place (2 ^ i)) packet ≡ symbol_updated P i packet place b s
+
+module _ (P i : ℕ) (packet : Packet) (place : ℕ → ℕ) (size : length packet ≡ P) (n : ℕ) (systematic : 2 ^ i ≤ n) (s : List ℕ)
+    (room : Room P place n (length s)) where
+  abbrev first : ℕ
+  first = place (2 ^ i)
+
+  first_within : first + P ≤ length s
+  first_within = room.within (2 ^ i) (pow_pos i) systematic
+
+  abbrev change : Packet
+  change = xor_bytes (cell s first P) packet
+
+  change_size : length change ≡ P
+  change_size =
+      let old : length (cell s first P) ≡ P = length_cell s first P first_within in
+      length_xor (cell s first P) packet (old ∙ sym size) ∙ old
+
   -- what lies before the systematic bank holds no symbol i, and there the XOR is the new packet
-  pub systematic_first : (f : ℕ) → f ≡ place (2 ^ i) → f + P ≤ length s
-      → put s f packet ≡ banks_changed P i (xor_bytes (cell s f P) packet) place (2 ^ i) s
+  pub turned_first : Turned P i packet place s (2 ^ i) s
   unfolding banks_changed
-  systematic_first f e h = go (2 ^ i) refl (pow_pos i)
+  turned_first = record { old = refl; changed = go (2 ^ i) refl (pow_pos i) }
     where
-      back : xor_bytes (cell s f P) (xor_bytes (cell s f P) packet) ≡ packet
-      back = xor_back (cell s f P) packet (length_cell s f P h ∙ sym size)
+      back : xor_bytes (cell s first P) change ≡ packet
+      back = xor_back (cell s first P) packet (length_cell s first P first_within ∙ sym size)
 
-      go : (b : ℕ) → 2 ^ i ≡ b → 1 ≤ b → put s f packet ≡ banks_changed P i (xor_bytes (cell s f P) packet) place b s
+      go : (b : ℕ) → 2 ^ i ≡ b → 1 ≤ b → put s first packet ≡ banks_changed P i change place b s
       go zero same l = absurd (omega arith)
-      go (suc n) same l =
-          let holds : has_symbol (suc n) i ≡ true = ap (λ (d : ℕ). has_symbol d i) (sym same) ∙ systematic_holds i in
-          let here : place (suc n) ≡ f = sym (e ∙ ap place same) in
-          rw (holds, here, none_below P i (xor_bytes (cell s f P) packet) place n s (omega arith), back)
+      go (suc m) same l =
+          let holds : has_symbol (suc m) i ≡ true = ap (λ (d : ℕ). has_symbol d i) (sym same) ∙ systematic_holds i in
+          let here : place (suc m) ≡ first = ap place (sym same) in
+          rw (holds, here, none_below P i change place m s (omega arith), back)
 
-  module _ (old : Packet) (same : length old ≡ P) (b at : ℕ) (within : at + P ≤ length s) (f : ℕ) (before : f + P ≤ at) where
-    change_size : length (xor_bytes old packet) ≡ P
-    change_size = length_xor old packet (same ∙ sym size) ∙ same
-
-    -- the systematic bank's cell is as it was while a bank behind it is changed
-    pub old_kept : cell (bank_changed P i (xor_bytes old packet) b at s) f P ≡ cell s f P
-    old_kept = one_apart P i (xor_bytes old packet) place change_size b at s within f (omega arith) (λ _. inl before)
-
-    -- and that change does not depend on it
-    pub one_swapped : put (bank_changed P i (xor_bytes old packet) b at s) f packet ≡ bank_changed P i (xor_bytes old packet) b at (put s f packet)
-    one_swapped = go (has_symbol b i)
-      where
-        apart : f + length packet ≤ at
-        apart = rw size before
-
-        go : (t : Bool)
-            → put (cond t (put s at (xor_bytes (cell s at P) (xor_bytes old packet))) s) f packet
-            ≡ cond t (put (put s f packet) at (xor_bytes (cell (put s f packet) at P) (xor_bytes old packet))) (put s f packet)
-        go true =
-            put_swap s f packet at (xor_bytes (cell s at P) (xor_bytes old packet)) apart
-            ∙ ap (λ (c : Packet). put (put s f packet) at (xor_bytes c (xor_bytes old packet))) (sym (cell_put_out s f packet at P (inr apart) within))
-        go false = refl
-
--- a turn: one bank more
-pub one_more : (P i : ℕ) (change : Packet) (place : ℕ → ℕ) (b : ℕ) (s now : List ℕ) (at : ℕ) → at ≡ place (b + 1)
-    → now ≡ banks_changed P i change place b s → bank_changed P i change (b + 1) at now ≡ banks_changed P i change place (b + 1) s
-unfolding banks_changed
-one_more P i change place b s now at e is = let m : b + 1 ≡ suc b = omega arith in rw (is, e, m)
+  -- a bank behind it: its change leaves the systematic bank as it was, and does not depend on it
+  pub turned_more : (m b : ℕ) (now : List ℕ) → b ≡ suc m → 2 ^ i ≤ m → b ≤ n → length now ≡ length s → Turned P i packet place s m now
+      → Turned P i packet place s b (bank_changed P i (xor_bytes (cell now first P) packet) b (place b) now)
+  unfolding banks_changed
+  turned_more m b now e l u same t =
+      let within : place b + P ≤ length now = omega (arith, room.within b (omega arith) u) in
+      let behind : first + P ≤ place b = room.rising (2 ^ i) b (pow_pos i) (omega arith) u in
+      let what : xor_bytes (cell now first P) packet ≡ change = ap (λ (c : Packet). xor_bytes c packet) t.old in
+      rw what
+      (record {
+        old = one_apart P i change place change_size b (place b) now within first (omega arith) (λ _. inl behind) ∙ t.old;
+        changed =
+            swapped (place b) now within behind (has_symbol b i)
+            ∙ rw e (ap (bank_changed P i change (suc m) (place (suc m))) t.changed);
+      })
+    where
+      swapped : (at : ℕ) (now : List ℕ) → at + P ≤ length now → first + P ≤ at → (t : Bool)
+          → put (cond t (put now at (xor_bytes (cell now at P) change)) now) first packet
+          ≡ cond t (put (put now first packet) at (xor_bytes (cell (put now first packet) at P) change)) (put now first packet)
+      swapped at now within behind true =
+          let apart : first + length packet ≤ at = rw size behind in
+          put_swap now first packet at (xor_bytes (cell now at P) change) apart
+          ∙ ap (λ (c : Packet). put (put now first packet) at (xor_bytes c change)) (sym (cell_put_out now first packet at P (inr apart) within))
+      swapped at now within behind false = refl
 
 -- ---- two stores that agree in the banks' cells and outside them
 
@@ -290,12 +305,9 @@ module _ (P : ℕ) (packets : List Packet) (i : ℕ) (packet : Packet) (place : 
   abbrev old : Packet
   old = get_or packets i []
 
-  first : 1 ≤ 2 ^ i
-  first = pow_pos i
-
   -- the systematic bank has the old packet
   old_there : cell s (place (2 ^ i)) P ≡ old
-  old_there = cells (2 ^ i) first systematic ∙ cell_one P packets i symbol sized
+  old_there = cells (2 ^ i) (pow_pos i) systematic ∙ cell_one P packets i symbol sized
 
   both_size : length (xor_bytes old packet) ≡ P
   both_size = length_xor old packet (sized_at P packets i symbol sized ∙ sym size) ∙ sized_at P packets i symbol sized

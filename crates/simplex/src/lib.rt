@@ -52,7 +52,7 @@ pub fn group_of(k: usize) -> Group
 pub fn degree(bank: u32) -> u32
     ensures { result ≡ degree_of bank }
 {
-    u32::count_ones(bank)
+    bank.count_ones()
 }
 
 // Carries the laws of the code. It does nothing.
@@ -67,24 +67,17 @@ pub fn the_limit()
     ensures met { LimitMet }
 {}
 
-// Adds a symbol to a group that has banks 1 to `t`, bank 1 at `at`, each `step` after the one before: its packet becomes bank t + 1, at `to`,
-// and bank b XOR the packet becomes bank t + 1 + b, for b from 1 to t. Gives the index after the last bank.
-fn add_symbol(store: &mut [u8], at: usize, to: usize, step: usize, t: usize, packet: &[u8]) -> usize
-    requires next_place { to ≡ spaced at step (suc t) }
-    requires room { (length packet.now ≤ step) × (step ≤ length store.old) × (to + t * step + length packet.now ≤ length store.old) }
-    ensures { (result ≡ to + step + t * step) × (store.new ≡ doubled packet.now (spaced at step) t t (put store.old to packet.now)) }
+// Adds a symbol to a group that has banks 1 to `t`, bank 1 at `at`, each `step` after the one before: its packet becomes bank t + 1,
+// and bank b XOR the packet becomes bank t + 1 + b, for b from 1 to t.
+fn add_symbol(store: &mut [u8], at: usize, step: usize, t: usize, packet: &[u8])
+    requires { (length packet.now ≤ step) × (step ≤ length store.old) × (spaced at step (suc t + t) + length packet.now ≤ length store.old) }
+    ensures { store.new ≡ doubled packet.now (spaced at step) t t (put store.old (spaced at step (suc t)) packet.now) }
 {
+    let to = at + t * step;
     cells::copy_into(store, to, packet);
-    let mut n = 0;
-    let mut from = at;
-    let mut next = to + step;
-    while n < t {
-        cells::xor_from(store, next, from, packet);
-        from += step;
-        next += step;
-        n += 1;
+    for n in 0..t {
+        cells::xor_from(store, to + step + n * step, at + n * step, packet);
     }
-    next
 }
 
 // Fills one group's banks in one row of `store` from its `k` packets of `p` bytes: bank 1 at `at`, each bank `step` after the one before.
@@ -93,25 +86,9 @@ pub fn fill_group(store: &mut [u8], at: usize, step: usize, packets: &[u8], p: u
     requires { Fillable k p at step packets.now store.old }
     ensures { store.new ≡ filled p (packets_of p k packets.now) (spaced at step) (banks_of k) store.old }
 {
-    let mut h = 0;
-    let mut t = 0;
-    let mut to = at;
-    let mut q = 0;
-    while h < k {
-        to = add_symbol(store, at, to, step, t, &packets[q..q + p]);
-        t = t + t + 1;
-        q += p;
-        h += 1;
-    }
-}
-
-// XORs the old packet, whose cell is at `from`, and the new one into the cell of bank b, at `at`, if the bank holds symbol i.
-fn update_bank(store: &mut [u8], b: usize, i: usize, at: usize, from: usize, packet: &[u8])
-    requires { (i < 64) × (at + length packet.now ≤ length store.old) × (from + length packet.now ≤ at) }
-    ensures { store.new ≡ bank_changed (length packet.now) i (xor_bytes (cell store.old from (length packet.now)) packet.now) b at store.old }
-{
-    if (b >> i) % 2 == 1 {
-        cells::xor_into(store, at, from, packet)
+    // By index: p may be 0, which `chunks_exact` does not take.
+    for h in 0..k {
+        add_symbol(store, at, step, (1 << h) - 1, &packets[h * p..(h + 1) * p]);
     }
 }
 
@@ -122,16 +99,13 @@ pub fn update_symbol(store: &mut [u8], at: usize, step: usize, packet: &[u8], k:
     requires { Updatable k (length packet.now) i at step store.old }
     ensures { store.new ≡ symbol_updated (length packet.now) i packet.now (spaced at step) (banks_of k) store.old }
 {
-    let group = group_of(k);
-    let banks = group.banks;
     let systematic = 1 << i;
     let old = at + (systematic - 1) * step;
-    let mut b = systematic;
-    let mut to = old;
-    while b < banks {
-        b += 1;
-        to += step;
-        update_bank(store, b, i, to, old, packet);
+    for b in systematic + 1..=group_of(k).banks {
+        // `as`, since u64 has no From<usize>.
+        if bits::is_marked(b as u64, i) {
+            cells::xor_into(store, at + (b - 1) * step, old, packet);
+        }
     }
     cells::copy_into(store, old, packet)
 }

@@ -1,14 +1,13 @@
 -- A read cycle in a session: the buffers that it is lent, and what it then answers.
-use mathlib.Core.Path.{◌≡◌, refl, ap, ◌∙◌}
+use mathlib.Core.Path.{◌≡◌, ap, ◌∙◌}
 use mathlib.Core.Logic.{⊎_elim}
-use mathlib.Core.List.{List, ◌∷◌}
-use Prim.Native.Nat.{ℕ, zero, suc, ◌+◌, ◌*◌, ◌-◌, ◌≤◌, min}
+use mathlib.Core.List.{List, ◌∷◌, ◌++◌}
+use Prim.Native.Nat.{ℕ, ◌*◌, ◌≤◌, min}
 use native.Mathlib.Omega.{arith}
 use lib.ListN.{length, take, drop, length-replicate}
-use lib.Seq.{take_at, length-take-le}
-use borrow.Rule.Slice.PartMut.{put_mid, same_len_mid}
+use Rattle.std.proofs.lemmas.List.{take-replicate}
+use lib.Seq.{take_at}
 use borrow.Table.Elements.{take-le}
-use Rattle.cells.specs.Cell.{cell}
 use Rattle.cells.specs.Xor.{zeros}
 use Rattle.reads.specs.Reads.{read_count}
 use Rattle.layout.specs.Shape.{store_size}
@@ -18,9 +17,8 @@ use Rattle.memory.specs.Operations.{cycle_outcome, cycle_output}
 use Rattle.memory.specs.History.{outcome_of, packets_by}
 use Rattle.frames.specs.Frames.{answer_byte, said}
 use Rattle.frames.specs.Printing.{Prints}
-use Rattle.steps.specs.declared.Session.{Session}
-use Rattle.steps.specs.declared.Session.TheVariants.{Running}
-use Rattle.steps.specs.Session.{most_store, most_output, memory_of, operation_done, cycle_of}
+use Rattle.steps.specs.declared.Reply.{Reply}
+use Rattle.steps.specs.Session.{Session, Running, most_store, memory_of, operation_done, cycle_of}
 use Rattle.steps.specs.Steps.{Gives}
 use Rattle.steps.specs.Parts.{lent_size}
 use Rattle.steps.proofs.Rooms.{said_of, same_said}
@@ -28,30 +26,18 @@ use Rattle.steps.proofs.Done.{running, same_store, lends, five_read}
 
 -- ---- the buffers
 
--- the front of a buffer of zeros
-pub front_zeros : (n size : ℕ) → size ≤ n → take size (zeros n) ≡ zeros size
-front_zeros n zero h = refl
-front_zeros zero (suc size) h = absurd (omega arith)
-front_zeros (suc n) (suc size) h = ap (λ (r : List ℕ). 0 ∷ r) (front_zeros n size (omega arith))
+-- a buffer of zeros whose front is lent, where a list as long comes back in its place: the front was zeros, and is that list, and is no longer than the buffer
+pub record Filled (n size : ℕ) (packets : List ℕ) : Type 0 where
+  pub lent : take size (zeros n) ≡ zeros size
+  pub front : take size (packets ++ drop size (zeros n)) ≡ packets
+  pub room : length (take size (packets ++ drop size (zeros n))) ≤ n
 
--- the part behind two bytes
-pub part_zeros : (n size : ℕ) → size ≤ n → take (2 + size - 2) (drop 2 (zeros (suc (suc n)))) ≡ zeros size
-part_zeros n size h = let e : 2 + size - 2 ≡ size = omega arith in rw e (front_zeros n size h)
-
--- with what comes back in its place the buffer is as long, and that stands there
-module _ (n size : ℕ) (packets : List ℕ) (e : length packets ≡ length (take (2 + size - 2) (drop 2 (zeros (suc (suc n)))))) where
-  pub part_long : length (put_mid 2 (2 + size - 2) (zeros (suc (suc n))) packets) ≡ suc (suc n)
-  part_long = same_len_mid 2 (2 + size - 2) (zeros (suc (suc n))) packets e ∙ length-replicate (suc (suc n)) 0
-
-  pub part_back : size ≤ n → cell (put_mid 2 (2 + size - 2) (zeros (suc (suc n))) packets) 2 size ≡ packets
-  part_back h = take_at packets _ size (e ∙ ap length (part_zeros n size h) ∙ length-replicate size 0)
-
--- a buffer of that size has room for an answer with its packets, and the output for a line of them
-pub buffer_room : (len size : ℕ) → len ≡ 2 + most_store → size ≤ most_store → (4 ≤ len) × (2 + size ≤ len)
-buffer_room len size e h = (omega arith, omega arith)
-
-pub line_room : (n : ℕ) (l : List ℕ) (room : ℕ) → n ≤ length l → length l ≡ 2 + most_store → room ≡ most_output → 2 * length (take n l) + 1 ≤ room
-line_room n l room h e f = omega (arith, length-take-le n l h)
+pub filled : (n size all : ℕ) (packets : List ℕ) → size ≡ min all n → length packets ≡ length (take size (zeros n)) → Filled n size packets
+filled n size all packets h e =
+    let z = take-replicate size n 0 (omega arith) in
+    let l : length packets ≡ size = e ∙ ap length z ∙ length-replicate size 0 in
+    let f : take size (packets ++ drop size (zeros n)) ≡ packets = take_at packets (drop size (zeros n)) size l in
+    record { lent = z; front = f; room = rw f (omega (arith, l, h)) }
 
 -- ---- frame 04
 
@@ -78,8 +64,7 @@ module _ (store reads : List ℕ) (st : State) (front size : ℕ) (fits : length
         let did : o ≡ cycle_outcome st (length (take front store)) reads size (read_count reads * 2) = simp (zp, zl, length-replicate) at done in
         rw (did, filled, zp, zl) (simp length-replicate (simp length-replicate at same_cycle))
 
-    pub cycle_done : (session : Session) (bytes out : List ℕ) (len : ℕ) (left : List ℕ) → session ≡ Running st → bytes ≡ answer_byte 4 ∷ said packets o.answer
-        → Prints bytes out len left
-        → Gives (operation_done session store 4 (cycle_of reads)) out (record { session = Running o.state; len = len }) store left
-    cycle_done session bytes out len left is spoken printed =
-        running session store 4 (cycle_of reads) st o store out len left is (rw done) (same_store st store) (rw (spoken, cycles) at printed)
+    pub cycle_done : {session : Session} {out left : List ℕ} {r : Reply} → session ≡ Running st → r.session ≡ Running o.state
+        → Prints (answer_byte 4 ∷ said packets o.answer) out r.len left → Gives (operation_done session store 4 (cycle_of reads)) out r store left
+    cycle_done {session} is goes printed =
+        running session store 4 (cycle_of reads) st o is (rw done) (same_store st store) goes (rw cycles at printed)

@@ -1,12 +1,14 @@
 -- What a frame does, from what the calls that serve it gave.
-use mathlib.Core.Path.{◌≡◌, refl, sym}
+use mathlib.Core.Path.{◌≡◌, refl, sym, ap, ◌∙◌}
 use mathlib.Core.Logic.{◌⊎◌, inl, inr, ⊎_elim}
 use mathlib.Core.Bool.{false}
 use mathlib.Core.List.{List, ◌∷◌, ◌++◌}
 use Prim.Native.Nat.{ℕ, min}
 use lib.ListN.{length, take, drop, take-append-drop}
-use Rattle.refusals.specs.declared.Verdict.{Verdict}
-use Rattle.refusals.specs.declared.Verdict.TheVariants.{Accepted, Refused}
+use Rattle.std.specs.Prelude.{Err}
+use Rattle.refusals.specs.declared.Refusal.{Refusal}
+use Rattle.refusals.specs.declared.Reason.TheVariants as reason
+use Rattle.refusals.specs.Verdict.{Verdict, Accepted, refused}
 use Rattle.layout.specs.declared.Shape.{Shape}
 use Rattle.layout.specs.Shape.{shape_refusal, store_size}
 use Rattle.memory.specs.declared.State.{State}
@@ -17,12 +19,10 @@ use Rattle.memory.specs.History.{Operation, write, outcome_of, store_after, pack
 use Rattle.frames.specs.Frames.{answer_byte, said}
 use Rattle.frames.specs.Printing.{Prints}
 use Rattle.steps.specs.declared.Reply.{Reply}
-use Rattle.steps.specs.declared.Session.{Session}
-use Rattle.steps.specs.declared.Session.TheVariants.{Fresh, Running}
-use Rattle.steps.specs.Session.{most_store, After, refused_with, unless_refused, memory_of, behind, operation_done}
+use Rattle.steps.specs.Session.{Session, Fresh, Running, no_memory, most_store, After, refused_with, unless_refused, memory_of, behind, operation_done}
 use Rattle.steps.specs.Steps.{Gives}
 use Rattle.steps.specs.Parts.{lent_size}
-use Rattle.steps.proofs.Lesser.{take_min, drop_min}
+use Rattle.std.proofs.lemmas.List.{take_min, drop_min}
 
 -- a set-up, or a line, by its verdict
 pub same_verdict : (v w : Verdict) (session : Session) (store : List ℕ) (first : ℕ) (after : After) {out : List ℕ} {r : Reply} {kept left : List ℕ}
@@ -33,16 +33,16 @@ same_verdict v w session store first after e g = rw e at g
 
 module _ (session : Session) (store : List ℕ) (kind : ℕ) (operation : Shape → Operation) where
   pub fresh : {out : List ℕ} {r : Reply} {kept left : List ℕ} → session ≡ Fresh
-      → Gives (refused_with session store (answer_byte kind) 19 0) out r kept left → Gives (operation_done session store kind operation) out r kept left
+      → Gives (refused_with session store (answer_byte kind) no_memory) out r kept left → Gives (operation_done session store kind operation) out r kept left
   fresh e g = rw e (rw e at g)
 
-  pub running : (st : State) (o : Outcome) (kept out : List ℕ) (len : ℕ) (left : List ℕ)
+  pub running : (st : State) (o : Outcome) {kept out left : List ℕ} {r : Reply}
       → let memory = memory_of st store in
       let op = operation st.shape in
-      session ≡ Running st → o.state ≡ (outcome_of memory op).state → kept ≡ store_after memory op ++ behind st store
-      → Prints (answer_byte kind ∷ said (packets_by memory op) (outcome_of memory op).answer) out len left
-      → Gives (operation_done session store kind operation) out (record { session = Running o.state; len = len }) kept left
-  running st o kept out len left e did holds t = rw e (record { session = rw did; store = holds; line = t })
+      session ≡ Running st → o.state ≡ (outcome_of memory op).state → kept ≡ store_after memory op ++ behind st store → r.session ≡ Running o.state
+      → Prints (answer_byte kind ∷ said (packets_by memory op) (outcome_of memory op).answer) out r.len left
+      → Gives (operation_done session store kind operation) out r kept left
+  running st o e did holds goes line = rw e (record { session = goes ∙ ap (λ (x : State). Running x) did; store = holds; line = line })
 
 -- the store where an operation keeps it
 pub same_store : (st : State) (store : List ℕ) → store ≡ (memory_of st store).store ++ behind st store
@@ -51,15 +51,15 @@ same_store st store = sym (take-append-drop (store_size st.shape) store)
 -- ---- the part of the store that is lent
 
 -- a shape out of range breaks the state
-broken : (st : State) (number place : ℕ) → shape_refusal st.shape ≡ Refused number place → sound st ≡ false
+broken : (st : State) (r : Refusal) → shape_refusal st.shape ≡ Err r → sound st ≡ false
 unfolding sound
-broken st number place e = rw e
+broken st r e = rw e
 
-five : (st : State) (size row len : ℕ) → sound st ≡ false → write_refusal st size row len ≡ Refused 5 0
+five : (st : State) (size row len : ℕ) → sound st ≡ false → write_refusal st size row len ≡ refused reason.BrokenState 0
 unfolding write_refusal
 five st size row len e = rw e
 
-pub five_read : (st : State) (size : ℕ) (reads : List ℕ) (out schedule : ℕ) → sound st ≡ false → cycle_refusal st size reads out schedule ≡ Refused 5 0
+pub five_read : (st : State) (size : ℕ) (reads : List ℕ) (out schedule : ℕ) → sound st ≡ false → cycle_refusal st size reads out schedule ≡ refused reason.BrokenState 0
 unfolding cycle_refusal
 five_read st size reads out schedule e = rw e
 
@@ -76,8 +76,8 @@ lends st store size fits e = go (shape_refusal st.shape) refl
     go : (v : Verdict) → shape_refusal st.shape ≡ v → (sound st ≡ false) ⊎ Lent st store size
     go Accepted a =
         let same : size ≡ min (store_size st.shape) most_store = rw a at e in
-        inr (record { front = rw same (take_min (store_size st.shape) most_store store fits); rest = rw same (drop_min (store_size st.shape) most_store store fits) })
-    go (Refused number place) r = inl (broken st number place r)
+        inr (record { front = rw (same, ← fits) (take_min (store_size st.shape) store); rest = rw (same, ← fits) (drop_min (store_size st.shape) store) })
+    go (Err refusal) r = inl (broken st refusal r)
 
 -- a write to it is the write to the memory, and the bytes behind it are kept
 pub writes : (st : State) (store : List ℕ) (size row : ℕ) (packets : List ℕ) → length store ≡ most_store → size ≡ min (lent_size st.shape) most_store

@@ -6,11 +6,12 @@ use Prim.Native.Nat.{ℕ, zero, suc, ◌*◌, ◌≤◌, ◌<◌}
 use native.Mathlib.Omega.{arith}
 use lib.ListN.{length}
 use Rattle.bits.proofs.Marks.{many_most}
-use Rattle.refusals.specs.declared.Verdict.{Verdict}
-use Rattle.refusals.specs.declared.Verdict.TheVariants.{Accepted, Refused}
-use Rattle.refusals.specs.Verdict.{check, ◌then◌, first_refusal}
+use Rattle.std.specs.Prelude.{Ok, Err}
+use Rattle.refusals.specs.declared.Refusal.{Refusal}
+use Rattle.refusals.specs.declared.Reason.{Reason}
+use Rattle.refusals.specs.Verdict.{Verdict, Accepted, answer_by, check, ◌then◌, first_refusal}
 use Rattle.refusals.proofs.Verdicts.{checks}
-use Rattle.simplex.specs.Shape.{limit_of, SymbolsInRange}
+use Rattle.simplex.specs.Shape.{limit_of}
 use Rattle.simplex.proofs.Tables.{limit_most}
 use Rattle.layout.specs.declared.Shape.{Shape}
 use Rattle.layout.specs.Shape.{shape_refusal, InRange, banks}
@@ -22,7 +23,7 @@ use Rattle.memory.specs.declared.Outcome.{Outcome}
 use Rattle.memory.specs.declared.Answer.{Answer}
 use Rattle.memory.specs.declared.Answer.TheVariants.{Served}
 use Rattle.memory.specs.State.{is_full, full_rows, sound, row_toggled}
-use Rattle.memory.specs.Operations.{answer_by, store_refusal, write_refusal, write_outcome, release_refusal, release_outcome, cycle_refusal, cycle_outcome}
+use Rattle.memory.specs.Operations.{store_refusal, write_refusal, write_outcome, release_refusal, release_outcome, cycle_refusal, cycle_outcome}
 use Rattle.memory.proofs.States.{sound_words}
 use Rattle.memory.proofs.Accepted.{store_facts, written_facts, released_facts}
 use Rattle.frames.specs.Frames.{most_frame, line_refusal}
@@ -35,38 +36,38 @@ use Rattle.steps.specs.Session.{set_up_refusal}
 abbrev Near : Verdict → Type 0
 Near v = Fits (answer_by Served v)
 
-near_check : (number place : ℕ) (test : Bool) → place < 65536 → Near (check number place test)
-near_check number place true l = tt
-near_check number place false l = l
+near_check : (reason : Reason) (place : ℕ) (test : Bool) → place < 65536 → Near (check reason place test)
+near_check reason place true l = tt
+near_check reason place false l = l
 
 near_then : (v next : Verdict) → Near v → (v ≡ Accepted → Near next) → Near (v then next)
 near_then Accepted next a b = b refl
-near_then (Refused number place) next a b = a
+near_then (Err refusal) next a b = a
 
 near_first : (f : ℕ → Verdict) (n : ℕ) → n ≤ 65536 → ((i : ℕ) → i < 65536 → Near (f i)) → Near (first_refusal f n)
 near_first f zero l h = tt
 near_first f (suc n) l h = near_then (first_refusal f n) (f n) (near_first f n (omega arith) h) (λ e. h n l)
 
-near_zero : (number : ℕ) (test : Bool) → Near (check number 0 test)
-near_zero number test = near_check number 0 test (omega arith)
+near_zero : (reason : Reason) (test : Bool) → Near (check reason 0 test)
+near_zero reason test = near_check reason 0 test (omega arith)
 
 ruleset near = (near_zero, near_check, near_then, near_first)
 
+near_place : (v : Verdict) (r : Refusal) → Near v → v ≡ Err r → r.place < 65536
+near_place v r n e = rw e at n
+
 -- of a line, and of a set-up
-pub line_near : (line : List ℕ) → Near (line_refusal line)
+pub line_place : (line : List ℕ) (r : Refusal) → line_refusal line ≡ Err r → r.place < 65536
 unfolding line_refusal
-line_near line = search near
+line_place line r e = near_place (line_refusal line) r (search near) e
 
-pub set_up_near : (sh : Shape) → Near (set_up_refusal sh)
+pub set_up_place : (sh : Shape) (r : Refusal) → set_up_refusal sh ≡ Err r → r.place < 65536
 unfolding set_up_refusal shape_refusal
-set_up_near sh = search near
+set_up_place sh r e = near_place (set_up_refusal sh) r (search near) e
 
-pub near_place : (v : Verdict) (number place : ℕ) → Near v → v ≡ Refused number place → place < 65536
-near_place v number place n e = rw e at n
-
-fits_by : (told : Answer) (v : Verdict) → Near v → (v ≡ Accepted → Fits told) → Fits (answer_by told v)
+fits_by : (told : Answer) (v : Verdict) → Near v → (v ≡ Accepted → Fits (Ok told)) → Fits (answer_by told v)
 fits_by told Accepted a b = b refl
-fits_by told (Refused number place) a b = a
+fits_by told (Err refusal) a b = a
 
 -- ---- the number of full rows
 
@@ -106,8 +107,8 @@ pub set_up_range : (sh : Shape) → set_up_refusal sh ≡ Accepted → InRange s
 unfolding set_up_refusal
 set_up_range sh e = let fine : shape_refusal sh ≡ Accepted = search checks in range_words sh fine
 
-pub few_in_all : (sh : Shape) → InRange sh → sh.m * banks sh < 256
-few_in_all sh w = omega (arith, all_banks_lem sh sh.m w w.groups.1)
-
-pub small_limit : (K : ℕ) → SymbolsInRange K → limit_of K < 256
-small_limit K w = omega (arith, limit_most K w.most)
+-- so the total of banks, and the most reads of a group, are bytes
+pub set_up_fits : (sh : Shape) → set_up_refusal sh ≡ Accepted → (sh.m * banks sh < 256) × (limit_of sh.k < 256)
+set_up_fits sh e =
+    let w = set_up_range sh e in
+    (omega (arith, all_banks_lem sh sh.m w w.groups.1), omega (arith, limit_most sh.k w.symbols.most))

@@ -6,9 +6,9 @@ use native.Mathlib.Omega.{arith}
 use borrow.Author.Tests.{leb-true}
 use lib.ListN.{length, take, drop, length-replicate}
 use lib.Seq.{take_at, length_front, length-take-le}
-use Rattle.refusals.specs.declared.Verdict.{Verdict}
-use Rattle.refusals.specs.declared.Verdict.TheVariants.{Accepted, Refused}
-use Rattle.refusals.specs.Verdict.{if_refused}
+use Rattle.std.specs.Prelude.{Result, Ok, Err}
+use Rattle.refusals.specs.declared.Refusal.{Refusal}
+use Rattle.refusals.specs.Verdict.{Verdict, Accepted, answer_by, if_refused}
 use Rattle.refusals.proofs.Verdicts.{checks}
 use Rattle.cells.specs.Cell.{cell}
 use Rattle.cells.specs.Xor.{zeros}
@@ -21,16 +21,14 @@ use Rattle.memory.specs.declared.State.{State}
 use Rattle.memory.specs.declared.Answer.{Answer}
 use Rattle.memory.specs.declared.Answer.TheVariants.{Served}
 use Rattle.rows.specs.Rows.{packet_in}
-use Rattle.memory.specs.Operations.{set_up_of, answer_by, cycle_refusal, cycle_output}
+use Rattle.memory.specs.Operations.{set_up_of, cycle_refusal, cycle_output}
 use Rattle.memory.specs.History.{Operation, write, release, History, Memory, outcome_of, store_after, step, run, verdict_in, full_in, last_written, Remembers}
 use Rattle.memory.proofs.Histories.{after_any_history}
 use Rattle.lines.specs.Hex.{bytes_of}
 use Rattle.frames.specs.declared.Frame.{Frame}
 use Rattle.frames.specs.declared.Frame.TheVariants.{SetUp, Write, Release, Read, Unknown}
 use Rattle.frames.specs.Frames.{line_refusal, frame_of, answer_byte, no_frame_byte, said}
-use Rattle.steps.specs.declared.Session.{Session}
-use Rattle.steps.specs.declared.Session.TheVariants.{Fresh, Running}
-use Rattle.steps.specs.Session.{most_store, After, unless_refused, set_up_refusal, memory_of, behind, operation_done, cycle_of, frame_done, line_done, lines_done, from_start, answer_after}
+use Rattle.steps.specs.Session.{Session, Fresh, Running, most_store, After, unless_refused, set_up_refusal, memory_of, behind, operation_done, cycle_of, frame_done, line_done, lines_done, from_start, answer_after}
 use Rattle.steps.specs.Past.{Past, nothing, since, more, past_by_frame, past_by, past_in, Keeps, Brings}
 
 -- a memory just set up, over any store
@@ -100,7 +98,7 @@ module _ (session : Session) (store : List ℕ) (size : length store ≡ most_st
   by_verdict : (past next : Past) (v : Verdict) (first : ℕ) (after : After) → Has past session store → (v ≡ Accepted → Kept next after)
       → Kept (if_refused past next v) (unless_refused v session store first after)
   by_verdict past next Accepted first after h k = k refl
-  by_verdict past next (Refused number place) first after h k = (h, size)
+  by_verdict past next (Err refusal) first after h k = (h, size)
 
   -- whatever the store then holds
   set_up : (sh : Shape) (s : List ℕ) → length s ≡ most_store → set_up_refusal sh ≡ Accepted
@@ -159,7 +157,7 @@ kept lines =
 behind_two : (a b : ℕ) (packets : List ℕ) (at p : ℕ) → cell (a ∷ b ∷ packets) (2 + at) p ≡ cell packets at p
 behind_two a b packets at p = let e : 2 + at ≡ suc (suc at) = omega arith in rw e
 
-said_packets : (sh : Shape) (history : History) (reads packets : List ℕ) (answer : Answer) → answer ≡ Served → length packets ≡ read_count reads * sh.p
+said_packets : (sh : Shape) (history : History) (reads packets : List ℕ) (answer : Result Answer Refusal) → answer ≡ Ok Served → length packets ≡ read_count reads * sh.p
     → ((n : ℕ) → n < read_count reads
     → cell packets (n * sh.p) sh.p ≡ packet_in sh (last_written sh history (row reads n)) (group reads n) (symbol reads n))
     → Brings sh history reads (answer_byte 4 ∷ said packets answer)
@@ -172,7 +170,7 @@ as_long st s reads out schedule = go (cycle_refusal st (length s) reads (length 
   where
     go : (v : Verdict) → length (if_refused out (packets_out st.shape s reads out) v) ≡ length out
     go Accepted = length_each st.shape.p (packet_of st.shape s reads) (read_count reads) out
-    go (Refused number place) = refl
+    go (Err refusal) = refl
 
 brings : (sh : Shape) (history : History) (session : Session) (store line : List ℕ) → Keeps (since sh history) session store
     → line_refusal line ≡ Accepted → frame_of (bytes_of line) ≡ Read
@@ -185,7 +183,7 @@ brings sh history session store line k fine read v =
     let reads = drop 1 (bytes_of line) in
     let op = cycle_of reads st.shape in
     let w : verdict_in sh (full_in sh history) op ≡ Accepted = rw r.shape v in
-    let served : (outcome_of (memory_of st store) op).answer ≡ Served = r.answers op ∙ ap (answer_by Served) w in
+    let served : (outcome_of (memory_of st store) op).answer ≡ Ok Served = r.answers op ∙ ap (answer_by Served) w in
     let many = read_count reads * st.shape.p in
     let out : List ℕ = zeros many in
     let schedule : List ℕ = zeros (read_count reads * 2) in

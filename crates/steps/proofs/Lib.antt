@@ -1,6 +1,5 @@
 -- The proofs of the crate: sizes that fit, sessions and what they keep.
 pub mod Fitting
-pub mod Lesser
 pub mod Rooms
 pub mod Done
 pub mod Cycles

@@ -9,9 +9,8 @@ use native.Mathlib.Omega.{arith}
 use borrow.Author.Tests.{eq-eqb}
 use lib.ListN.{length}
 use lib.Pow.{pow-lt}
-use Rattle.refusals.specs.declared.Verdict.{Verdict}
-use Rattle.refusals.specs.declared.Verdict.TheVariants.{Accepted, Refused}
-use Rattle.refusals.specs.Verdict.{◌then◌}
+use Rattle.std.specs.Prelude.{Err}
+use Rattle.refusals.specs.Verdict.{Verdict, Accepted, answer_by, ◌then◌}
 use Rattle.cells.specs.Xor.{zeros}
 use Rattle.simplex.specs.Shape.{SymbolsInRange, banks_of, limit_of}
 use Rattle.layout.specs.Shape.{banks, store_size}
@@ -20,7 +19,7 @@ use Rattle.reads.specs.Refusals.{buffer_refusal, list_refusal}
 use Rattle.reads.proofs.Counting.{reads_most}
 use Rattle.memory.specs.declared.State.{State}
 use Rattle.memory.specs.declared.Answer.TheVariants.{Served}
-use Rattle.memory.specs.Operations.{answer_by, cycle_refusal, cycle_outcome, cycle_output}
+use Rattle.memory.specs.Operations.{cycle_refusal, cycle_outcome, cycle_output}
 use Rattle.memory.proofs.States.{sound_words}
 use Rattle.memory.proofs.Accepted.{read_facts}
 use Rattle.frames.specs.Frames.{said}
@@ -49,7 +48,7 @@ within st size reads out schedule e =
 -- a refusal by a check before the last stays the same, whatever the last says
 earlier : (v last other : Verdict) → ((v then last) ≡ Accepted → ⊥) → ((last ≡ Accepted → ⊥) → other ≡ last) → (v then other) ≡ (v then last)
 earlier Accepted last other refused h = h refused
-earlier (Refused number place) last other refused h = refl
+earlier (Err refusal) last other refused h = refl
 
 not_last : (last other : Verdict) → last ≡ Accepted → (last ≡ Accepted → ⊥) → other ≡ last
 not_last last other fine refused = absurd (refused fine)
@@ -63,7 +62,7 @@ refused_alike st size reads out exact schedule fine refused = search (earlier, n
 -- a refusal says nothing of the packets
 said_refused : (packets others : List ℕ) (v : Verdict) → (v ≡ Accepted → ⊥) → said packets (answer_by Served v) ≡ said others (answer_by Served v)
 said_refused packets others Accepted refused = absurd (refused refl)
-said_refused packets others (Refused number place) refused = refl
+said_refused packets others (Err refusal) refused = refl
 
 -- what a cycle says whose buffers are zeros, of so many bytes for its packets
 abbrev pub said_of : State → (s reads : List ℕ) → (room : ℕ) → List ℕ

@@ -3,7 +3,6 @@ use mathlib.Core.Path.{◌≡◌, refl, sym, ap, ◌∙◌}
 use mathlib.Core.Bool.{Bool, true, false, cond}
 use mathlib.Core.List.{List, [], ◌∷◌, ◌++◌}
 use Prim.Native.Nat.{ℕ, zero, suc, ◌+◌, ◌-◌, ◌/◌, ◌%◌, ◌≤◌, ◌<◌}
-use native.Mathlib.Nat.{zero-add}
 use native.Mathlib.Omega.{arith}
 use borrow.Author.Tests.{ne_eqb}
 use lib.Dec.{eqb, ltb}
@@ -14,10 +13,8 @@ use Rattle.lines.specs.Lines.{line_feed, lines_of, first_line, line_at}
 use Rattle.lines.specs.Hex.{char0, small_a, digit_of, digits_of}
 use Rattle.lines.proofs.Lines.{the_lines}
 use Rattle.frames.specs.Frames.{printed}
-use Rattle.steps.specs.declared.Session.{Session}
-use Rattle.steps.specs.declared.Session.TheVariants.{Fresh}
 use Rattle.steps.specs.declared.Next.{Next}
-use Rattle.steps.specs.Session.{most_text, most_store, AfterLines, line_done, and_then, lines_done, text_read, text_done}
+use Rattle.steps.specs.Session.{Session, Fresh, most_text, most_store, AfterLines, line_done, and_then, lines_done, text_read, text_done}
 use Rattle.steps.specs.Steps.{Answers}
 use Rattle.steps.specs.Laws.{TheSession}
 use Rattle.steps.proofs.Kept.{kept, returned}
@@ -87,9 +84,6 @@ pub record Ahead (all left : AfterLines) (printed : ℕ) : Type 0 where
   pub session : left.session ≡ all.session
   pub store : left.store ≡ all.store
   pub output : printed + length left.output ≡ length all.output
-
-pub at_first : (all : AfterLines) → Ahead all all 0
-at_first all = record { session = refl; store = refl; output = zero-add (length all.output) }
 
 pub and_on : {all left then : AfterLines} {m n : ℕ} → Ahead all left m → Ahead left then n → Ahead all then (m + n)
 and_on a b = record { session = b.session ∙ a.session; store = b.store ∙ a.store; output = omega (arith, a.output, b.output) }

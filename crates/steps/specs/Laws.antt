@@ -1,14 +1,13 @@
 -- The laws of the session file.
 use Rattle.std.specs.Prelude.{◌≡◌, List, [], ℕ, ◌≤◌, ◌<◌, length, get_or, take, drop}
-use Rattle.refusals.specs.declared.Verdict.TheVariants.{Accepted}
+use Rattle.refusals.specs.Verdict.{Accepted}
 use Rattle.layout.specs.declared.Shape.{Shape}
 use Rattle.memory.specs.History.{History, verdict_in, full_in}
 use Rattle.lines.specs.Lines.{lines_of, first_line, line_at}
 use Rattle.lines.specs.Hex.{bytes_of, digits_of}
 use Rattle.frames.specs.declared.Frame.TheVariants.{Read}
 use Rattle.frames.specs.Frames.{line_refusal, frame_of}
-use Rattle.steps.specs.declared.Session.{Session}
-use Rattle.steps.specs.Session.{cycle_of, line_done, and_then, lines_done, text_read, from_start, answer_after, session_of}
+use Rattle.steps.specs.Session.{Session, cycle_of, line_done, and_then, lines_done, text_read, from_start, answer_after, session_of}
 use Rattle.steps.specs.Past.{nothing, since, past_in, Keeps, Brings}
 
 -- next: what the lines from an index of a text on do is what the line that a reader finds there does, and then what those behind it do.

@@ -11,9 +11,7 @@ use Rattle.lines.specs.Hex.{bytes_of}
 use Rattle.frames.specs.declared.Frame.{Frame}
 use Rattle.frames.specs.declared.Frame.TheVariants.{SetUp, Write, Release, Read, Unknown}
 use Rattle.frames.specs.Frames.{line_refusal, frame_of, answer_byte}
-use Rattle.steps.specs.declared.Session.{Session}
-use Rattle.steps.specs.declared.Session.TheVariants.{Fresh, Running}
-use Rattle.steps.specs.Session.{set_up_refusal, memory_of, cycle_of}
+use Rattle.steps.specs.Session.{Session, Fresh, Running, set_up_refusal, memory_of, cycle_of}
 
 -- Nothing, before any accepted 01; else the shape of the last accepted 01, and the operations since.
 pub data Past : Type 0 where

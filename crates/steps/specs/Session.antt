@@ -1,8 +1,8 @@
 -- A session: what each line makes of the memory and answers, and what a whole text answers.
-use Rattle.std.specs.Prelude.{List, [], ◌∷◌, ◌++◌, ℕ, ◌+◌, ◌*◌, leb, length, take, drop}
-use Rattle.refusals.specs.declared.Verdict.{Verdict}
-use Rattle.refusals.specs.declared.Verdict.TheVariants.{Accepted, Refused}
-use Rattle.refusals.specs.Verdict.{check, ◌then◌}
+use Rattle.std.specs.Prelude.{List, [], ◌∷◌, ◌++◌, ℕ, ◌+◌, ◌*◌, leb, length, take, drop, Option, Some, None, Err}
+use Rattle.refusals.specs.declared.Refusal.{Refusal}
+use Rattle.refusals.specs.declared.Reason.TheVariants as reason
+use Rattle.refusals.specs.Verdict.{Verdict, Accepted, check, ◌then◌}
 use Rattle.cells.specs.Xor.{zeros}
 use Rattle.simplex.specs.Shape.{limit_of}
 use Rattle.layout.specs.declared.Shape.{Shape}
@@ -16,8 +16,6 @@ use Rattle.lines.specs.Hex.{bytes_of}
 use Rattle.frames.specs.declared.Frame.{Frame}
 use Rattle.frames.specs.declared.Frame.TheVariants.{SetUp, Write, Release, Read, Unknown}
 use Rattle.frames.specs.Frames.{line_refusal, frame_of, answer_byte, no_frame_byte, refusal_said, said, printed}
-use Rattle.steps.specs.declared.Session.{Session}
-use Rattle.steps.specs.declared.Session.TheVariants.{Fresh, Running}
 
 -- The bytes that a session reads, those of its store, and room for any output line.
 abbrev pub most_text : ℕ
@@ -29,6 +27,16 @@ most_store = 16384
 abbrev pub most_output : ℕ
 most_output = 2 * (2 + most_store) + 1
 
+-- What a session has from line to line, beside its store: nothing, or the memory of the last accepted 01.
+abbrev pub Session : Type 0
+Session = Option State
+
+pattern abbrev pub Fresh : Session
+Fresh = None
+
+pattern abbrev pub Running : State → Session
+Running st = Some st
+
 -- What a line leaves: the memory, the store, and the bytes of the output line.
 pub record After : Type 0 where
   pub session : Session
@@ -36,19 +44,19 @@ pub record After : Type 0 where
   pub answer : List ℕ
 
 -- Refused: nothing has changed. The answer's first byte is given.
-abbrev pub refused_with : Session → (store : List ℕ) → (first number place : ℕ) → After
-refused_with session store first number place = record { session = session; store = store; answer = first ∷ refusal_said number place }
+abbrev pub refused_with : Session → (store : List ℕ) → (first : ℕ) → Refusal → After
+refused_with session store first refusal = record { session = session; store = store; answer = first ∷ refusal_said refusal }
 
 -- Refused by this verdict, or else this.
 abbrev pub unless_refused : Verdict → Session → (store : List ℕ) → (first : ℕ) → After → After
 unless_refused Accepted session store first after = after
-unless_refused (Refused number place) session store first after = refused_with session store first number place
+unless_refused (Err refusal) session store first after = refused_with session store first refusal
 
 -- ---- 01
 
 -- 1 to 4; then 20, its store passes 16,384 bytes.
 unfoldable pub set_up_refusal : Shape → Verdict
-set_up_refusal sh = (set_up_of sh).verdict then check 20 0 (leb (store_size sh) most_store)
+set_up_refusal sh = (set_up_of sh).verdict then check reason.StoreTooLarge 0 (leb (store_size sh) most_store)
 
 -- A memory set up afresh, with a zeroed store. It answers the total of banks and the most reads of a group. Refused, it keeps the earlier memory.
 abbrev pub set_up_done : Session → (store : List ℕ) → Shape → After
@@ -68,9 +76,13 @@ memory_of st store = record { state = st; store = take (store_size st.shape) sto
 abbrev pub behind : State → (store : List ℕ) → List ℕ
 behind st store = drop (store_size st.shape) store
 
+-- 19: there is no memory.
+abbrev pub no_memory : Refusal
+no_memory = record { reason = reason.NoMemory; place = 0 }
+
 -- 19, before any accepted 01; else an operation on the memory.
 abbrev pub operation_done : Session → (store : List ℕ) → (kind : ℕ) → (Shape → Operation) → After
-operation_done Fresh store kind operation = refused_with Fresh store (answer_byte kind) 19 0
+operation_done Fresh store kind operation = refused_with Fresh store (answer_byte kind) no_memory
 operation_done (Running st) store kind operation =
     let memory = memory_of st store in
     let op = operation st.shape in
@@ -86,13 +98,17 @@ cycle_of reads sh = read reads (zeros (read_count reads * sh.p)) (zeros (read_co
 
 -- ---- a line, and a text
 
+-- 18: the bytes are no frame.
+abbrev pub unknown_frame : Refusal
+unknown_frame = record { reason = reason.UnknownFrame; place = 0 }
+
 -- What a frame does, by its kind.
 unfoldable pub frame_done : Session → (store bytes : List ℕ) → Frame → After
 frame_done session store bytes (SetUp sh) = set_up_done session store sh
 frame_done session store bytes (Write row) = operation_done session store 2 (λ sh. write row (drop 2 bytes))
 frame_done session store bytes (Release row) = operation_done session store 3 (λ sh. release row)
 frame_done session store bytes Read = operation_done session store 4 (cycle_of (drop 1 bytes))
-frame_done session store bytes Unknown = refused_with session store no_frame_byte 18 0
+frame_done session store bytes Unknown = refused_with session store no_frame_byte unknown_frame
 
 -- What a line does: 17, or its frame.
 abbrev pub line_done : Session → (store line : List ℕ) → After

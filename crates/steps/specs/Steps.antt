@@ -2,10 +2,9 @@
 use Rattle.std.specs.Prelude.{◌≡◌, List, ℕ, ◌≤◌, ◌<◌, length, drop}
 use Rattle.lines.specs.Lines.{first_line, line_at}
 use Rattle.frames.specs.Printing.{Prints}
-use Rattle.steps.specs.declared.Session.{Session}
 use Rattle.steps.specs.declared.Reply.{Reply}
 use Rattle.steps.specs.declared.Next.{Next}
-use Rattle.steps.specs.Session.{After, line_done}
+use Rattle.steps.specs.Session.{Session, After, line_done}
 
 -- A step over this output that gave this reply, and left this store and this output, did what a line does.
 pub record Gives (after : After) (out : List ℕ) (r : Reply) (store_after out_after : List ℕ) : Type 0 where

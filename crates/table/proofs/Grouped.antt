@@ -1,11 +1,10 @@
 -- A list that is put together symbol by symbol: how long it is, and what stands in it.
-use mathlib.Core.Path.{◌≡◌, refl, sym, ap, ap₂, ◌∙◌}
+use mathlib.Core.Path.{◌≡◌, refl, ap, ap₂, ◌∙◌}
 use mathlib.Core.List.{List, [], ◌∷◌}
 use Prim.Native.Nat.{ℕ, zero, suc, ◌+◌, ◌<◌}
-use native.Mathlib.Nat.{le_of_suc-le-suc, not-suc-le-zero, zero-add}
+use native.Mathlib.Nat.{le_of_suc-le-suc, not-suc-le-zero}
 use native.Mathlib.Omega.{arith}
 use lib.ListN.{length, get_or, length-append}
-use lib.Seq.{ext_get_or}
 use Rattle.simplex.specs.Limit.{total}
 use Rattle.audit.specs.Plan.{Pair, no_pair, start, pair_at}
 use Rattle.table.specs.Grouped.{list_of, grouped}
@@ -21,14 +20,6 @@ pub of_at : {A : Type 0} (f : ℕ → A) (j n m : ℕ) (d : A) → m < n → get
 of_at f j zero m d h = absurd (not-suc-le-zero h)
 of_at f j (suc n) zero d h = ap f (omega arith)
 of_at f j (suc n) (suc m) d h = of_at f (suc j) n m d (le_of_suc-le-suc h) ∙ ap f (omega arith)
-
--- a list with these elements
-pub list_is : (f : ℕ → ℕ) (n : ℕ) (xs : List ℕ) → length xs ≡ n → ((j : ℕ) → j < n → get_or xs j 0 ≡ f j) → xs ≡ list_of f 0 n
-list_is f n xs size each =
-    ext_get_or 0 xs (list_of f 0 n) (size ∙ sym (length_of f 0 n))
-    (λ j l.
-    let less : j < n = omega (arith, l, size) in
-    each j less ∙ ap f (sym (zero-add j)) ∙ sym (of_at f 0 n j 0 less))
 
 -- ---- the pairs f i j
 

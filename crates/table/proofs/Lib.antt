@@ -1,8 +1,7 @@
 -- The proofs of the crate: the test of the table, and what it shows of each sorted request.
 pub mod Grouped
-pub mod Arms
 pub mod Sweep
 pub mod Tested
+pub mod Stored
 pub mod Found
 pub mod Walks
-pub mod Digits

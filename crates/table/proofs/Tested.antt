@@ -1,19 +1,23 @@
 -- The table's test, computed once over all sorted requests of all K: each has a row, and its pairs are a plan.
 use mathlib.Core.Bool.{Bool, not, ◌&&◌, ◌||◌}
 use mathlib.Core.List.{List}
-use Prim.Native.Nat.{ℕ, zero, suc, ◌+◌, ◌-◌, ◌*◌}
+use Prim.Native.Nat.{ℕ, zero, suc, ◌+◌, ◌-◌}
 use lib.Dec.{T, ltb}
 use lib.ListN.{length, get_or, drop}
 use Rattle.simplex.specs.Shape.{least_symbols, most_symbols, limit_of}
 use Rattle.audit.specs.Plan.{is_plan}
 use Rattle.audit.specs.Audit.{all_zero}
-use Rattle.table.specs.Rows.{block_rows, blocks, trie}
+use Rattle.table.specs.Rows.{blocks, trie}
 use Rattle.table.specs.Table.{row_of, row_pairs}
 use Rattle.table.proofs.Sweep.{below, everywhere}
 
+-- how many rows the code stores: the blocks without the unused places of the last
+abbrev pub stored : ℕ
+stored = 122
+
 -- the walk stays within the trie, and its end within the rows
 abbrev pub inside : List ℕ → ℕ → ℕ → Bool
-inside counts at zero = ltb (at + get_or counts 1 0) (length blocks * block_rows)
+inside counts at zero = ltb (at + get_or counts 1 0) stored
 inside counts at (suc n) =
     ltb (at + get_or counts (suc (suc n)) 0) (length trie) && inside counts (get_or trie (at + get_or counts (suc (suc n)) 0) 0) n
 

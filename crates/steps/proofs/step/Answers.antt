@@ -3,15 +3,15 @@ use Rattle.std.proofs.Common.{refl, sym, ap, ◌∙◌, length, arith}
 use Rattle.cells.proofs.Cells.{length_put}
 use Rattle.lines.proofs.Digits.{length_bytes}
 use Rattle.frames.proofs.Framed.{framed, decoded}
-use Rattle.steps.proofs.Fitting.{line_near, near_place}
+use Rattle.steps.proofs.Fitting.{line_place}
 use Rattle.steps.proofs.Done.{same_verdict}
 use Rattle.steps.proofs.step.Goals as goal
 
 pub refuse-requires : goal.refuse-requires
-refuse-requires c = near_place _ _ _ (line_near _) (sym c.in-Refused.ensures)
+refuse-requires c = line_place _ _ (sym c.in-Err.ensures)
 
-pub returns-in-Refused : goal.returns-in-Refused
-returns-in-Refused c = same_verdict _ _ c.args.session c.args.store.now _ _ c.in-Refused.ensures (c.refuse.ensures c.args.store.now)
+pub returns-in-Err : goal.returns-in-Err
+returns-in-Err c = same_verdict _ _ c.args.session c.args.store.now _ _ c.in-Err.ensures (c.refuse.ensures c.args.store.now)
 
 pub decode-requires : goal.decode-requires
 decode-requires c = let w = framed _ (sym c.in_default.ensures) in (w.digits, w.most)

@@ -1,0 +1,104 @@
+-- The systematic bank is one of the group's, and each turn changes one bank behind it.
+use Rattle.std.proofs.Common.{◌≡◌, ℕ, suc, ◌+◌, ◌-◌, ◌*◌, ◌%◌, ◌^◌, ◌<◌, ◌≤◌, true, false, List, length, arith, refl, sym, ap, ◌∙◌}
+use native.Mathlib.Nat.{pow-suc}
+use lib.Pow.{pow_pos, pow_mono}
+use Rattle.bits.proofs.Marks.{one_shl}
+use Rattle.cells.specs.Cell.{cell, put}
+use Rattle.cells.specs.Xor.{xor_bytes}
+use Rattle.simplex.specs.Shape.{banks_of}
+use Rattle.simplex.specs.Filling.{spaced, Room}
+use Rattle.simplex.specs.Updating.{has_symbol, bank_changed, Updatable}
+use Rattle.simplex.proofs.Tables.{banks_of_lem}
+use Rattle.simplex.proofs.Filling.{spaced_room}
+use Rattle.simplex.proofs.Updating.{systematic_bank, Turned, turned_first, turned_more}
+use Rattle.simplex.proofs.update_symbol.Goals as goal
+use Rattle.simplex.proofs.update_symbol.Goals.{else-loop-b-test, then-loop-b-test+else-b-b-end, then-is_marked, else-is_marked}
+
+module _ {k P i at step : ℕ} {store : List ℕ} (u : Updatable k P i at step store) where
+  power : 1 * 2 ^ i % 2 ^ 64 ≡ 2 ^ i
+  power = one_shl i 64 (omega (arith, u.symbol, u.symbols.most))
+
+  -- where the systematic bank lies
+  old_place : at + (1 * 2 ^ i % 2 ^ 64 - 1) * step ≡ spaced at step (2 ^ i)
+  old_place = ap (spaced at step) power
+
+  systematic : 2 ^ i ≤ banks_of k
+  systematic = systematic_bank k i u.symbol
+
+  -- a bank lies behind it: the group has two symbols and more
+  one_behind : 2 ^ i + 1 ≤ banks_of k
+  one_behind =
+      let four : 2 ^ 2 ≤ 2 ^ k = pow_mono u.symbols.least in
+      let up : 2 ^ suc i ≤ 2 ^ k = pow_mono u.symbol in
+      omega (arith, pow-suc 2 i, pow_pos i)
+
+  room : Room P (spaced at step) (banks_of k) (length store)
+  room = spaced_room P at step (banks_of k) (length store) u.step_size u.last
+
+  within : at + (1 * 2 ^ i % 2 ^ 64 - 1) * step + P ≤ length store
+  within = omega (arith, old_place, room.within (2 ^ i) (pow_pos i) systematic)
+
+-- a turn, by the bank's bit
+module _ {k i at step : ℕ} {packet store : List ℕ} (u : Updatable k (length packet) i at step store) (b : ℕ) (now next : List ℕ)
+    (behind : 2 ^ i < b) (most : b ≤ banks_of k) (same : length now ≡ length store)
+    (before : Turned (length packet) i packet (spaced at step) store (b - 1) now) where
+  turned : next ≡ bank_changed (length packet) i (xor_bytes (cell now (spaced at step (2 ^ i)) (length packet)) packet) b (spaced at step b) now
+      → Turned (length packet) i packet (spaced at step) store b next
+  turned is =
+      rw is
+      (turned_more (length packet) i packet (spaced at step) refl (banks_of k) (systematic u) store (room u) (b - 1) b now (omega arith) (omega arith) most same before)
+
+  turned_held : true ≡ has_symbol b i
+      → next ≡ put now (spaced at step b) (xor_bytes (cell now (spaced at step b) (length packet)) (xor_bytes (cell now (at + (1 * 2 ^ i % 2 ^ 64 - 1) * step) (length packet)) packet))
+      → Turned (length packet) i packet (spaced at step) store b next
+  turned_held held is = turned (is ∙ rw (old_place u, sym held))
+
+  turned_other : false ≡ has_symbol b i → next ≡ now → Turned (length packet) i packet (spaced at step) store b next
+  turned_other other is = turned (is ∙ rw (sym other))
+
+pub overflow_mul-old : goal.overflow_mul-old
+overflow_mul-old c = omega (arith, within c.requires)
+
+pub overflow_add-old : goal.overflow_add-old
+overflow_add-old c = omega (arith, within c.requires)
+
+pub copy_into-requires : goal.copy_into-requires
+copy_into-requires c = omega (arith, within c.requires)
+
+pub loop-b-init : goal.loop-b-init
+loop-b-init c =
+    let first : 1 * 2 ^ c.args.i % 2 ^ 64 + 1 - 1 ≡ 2 ^ c.args.i = omega (arith, power c.requires) in
+    rw first
+    (turned_first (length c.args.packet.now) c.args.i c.args.packet.now (spaced c.args.at c.args.step) refl (banks_of c.args.k) (systematic c.requires) c.args.store.now (room c.requires))
+
+pub loop-b-preserved : goal.loop-b-preserved
+loop-b-preserved c =
+    let next : c.loop-b.b + 1 - 1 ≡ c.loop-b.b = omega arith in
+    let behind : 2 ^ c.args.i < c.loop-b.b = omega (arith, power c.requires) in
+    let most : c.loop-b.b ≤ banks_of c.args.k = omega (arith, banks_of_lem c.args.k c.group_of-b-end.ensures) in
+    rw next
+    (elim c.if-is_marked.branch [
+      | then-is_marked w ↦ turned_held c.requires _ _ _ behind most c.loop-b.auto.store c.loop-b.invariant w.if-is_marked.ensures (w.store-is ∙ w.xor_into.ensures)
+      | else-is_marked w ↦ turned_other c.requires _ _ _ behind most c.loop-b.auto.store c.loop-b.invariant w.if-is_marked.ensures w.store-is
+    ])
+
+pub returns : goal.returns
+returns c =
+    let banks = banks_of_lem c.args.k c.group_of-b-end.ensures in
+    let end = c.loop-b.auto.b-end (omega (arith, banks, power c.requires, one_behind c.requires)) in
+    let behind : 2 ^ c.args.i < c.loop-b.b = omega (arith, power c.requires) in
+    let place = spaced c.args.at c.args.step in
+    let all : Turned (length c.args.packet.now) c.args.i c.args.packet.now place c.args.store.now (banks_of c.args.k) c.loop-b-test.store =
+    elim c.loop-b-test.branch [
+      | else-loop-b-test w ↦
+          let last : c.loop-b.b - 1 ≡ banks_of c.args.k = omega (arith, banks, end, w.loop-b-test.false) in
+          rw (w.store-is, ← last) c.loop-b.invariant
+      | then-loop-b-test+else-b-b-end w ↦
+          let last : c.loop-b.b ≡ banks_of c.args.k = omega (arith, banks, end, w.loop-b-test.true) in
+          rw (w.store-is, ← last)
+          (elim w.if-is_marked.branch [
+            | then-is_marked w' ↦ turned_held c.requires _ _ _ behind (omega (arith, last)) c.loop-b.auto.store c.loop-b.invariant w'.if-is_marked.ensures (w'.store-is ∙ w'.xor_into.ensures)
+            | else-is_marked w' ↦ turned_other c.requires _ _ _ behind (omega (arith, last)) c.loop-b.auto.store c.loop-b.invariant w'.if-is_marked.ensures w'.store-is
+          ])
+    ] in
+    c.copy_into.ensures ∙ ap (λ (n : ℕ). put c.loop-b-test.store n c.args.packet.now) (old_place c.requires) ∙ all.changed
