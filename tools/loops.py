@@ -1,6 +1,6 @@
 #!/usr/bin/env python3
-"""Shows how the loops over bytes of a write, an update and a read cycle are compiled: of each operation, exported by a function that puts the state together, the
-innermost loops that work on 16 bytes at a time, and the calls.
+"""Shows how the loops over bytes of a write, an update and a read cycle are compiled: of each operation, exported by a function that puts the state together, and
+of the functions of the library that it calls, the innermost loops that work on 16 bytes at a time, and the calls.
 
     python3 tools/loops.py
 
@@ -16,11 +16,11 @@ from exported import build
 STATE = "k: usize, m: usize, p: usize, g: usize, full: u64"
 OPERATIONS = {
     "write": ("store: &mut [u8], row: usize, generation: &[u8]", "write(store, row, generation)"),
-    "update": ("store: &mut [u8], row: usize, group: usize, symbol: usize, packet: &[u8]", "update(store, row, group, symbol, packet)"),
+    "update": ("store: &mut [u8], row: usize, group: usize, symbol: usize, packet: &[u8]", "update(store, PacketName { row, group, symbol }, packet)"),
     "read_cycle": ("store: &[u8], reads: &[u8], out: &mut [u8], schedule: &mut [u8]", "read_cycle(store, reads, out, schedule)"),
 }
 USES = """
-use layout::Shape;
+use layout::{PacketName, Shape};
 use memory::{Answer, State};
 """
 EXPORT = """
@@ -38,10 +38,23 @@ pub extern "C" fn exported_{name}({state}, {parameters}) -> usize {{
 PACKED = re.compile(r"mov[au]p[sd]|movdq[au]|xorps|pxor")
 
 
-# The instructions of a function: address, name, operands.
-def instructions(listing, function):
-    body = re.search(rf"<{function}>:\n(.*?)(?:\n\n|\Z)", listing, re.S)[1]
-    return [(int(at, 16), name, rest) for at, name, rest in re.findall(r"^ *([0-9a-f]+):\t(\S+) *(.*)$", body, re.M)]
+# The functions of a listing: the instructions of each, by address, name and operands, and what it calls, in their order.
+def functions(listing):
+    found = {}
+    for function, body in re.findall(r"^[0-9a-f]+ <([^>]+)>:\n(.*?)(?=\n\n|\Z)", listing, re.M | re.S):
+        code = [(int(at, 16), name, rest) for at, name, rest in re.findall(r"^ *([0-9a-f]+):\t([a-z]\S*) *(.*)$", body, re.M)]
+        calls = re.findall(r"call.*\n.*R_X86_64_(?:PLT32|PC32|GOTPCRELX)\t(?:\.text\.)?([^\s+-]+)", body)
+        found[function] = code, calls
+    return found
+
+
+# A function and those of the listing that it calls, and they call, each once.
+def reached(found, function, seen):
+    if function in found and function not in seen:
+        seen.append(function)
+        for callee in found[function][1]:
+            reached(found, callee, seen)
+    return seen
 
 
 # The innermost loops: from the target of a jump backwards to the jump, with no other such part in it. One with a `ret` in it is no loop: the jump goes to
@@ -70,13 +83,15 @@ def main():
     exports = [EXPORT.format(name=name, state=STATE, parameters=parameters, call=call) for name, (parameters, call) in OPERATIONS.items()]
     with tempfile.TemporaryDirectory() as scratch:
         archive = build(pathlib.Path(scratch), "memory", USES + "".join(exports))
-        listing = subprocess.run(["objdump", "-d", "--no-show-raw-insn", archive], check=True, capture_output=True, text=True).stdout
+        listing = subprocess.run(["objdump", "-dr", "--no-show-raw-insn", archive], check=True, capture_output=True, text=True).stdout
+    found = functions(listing)
     for name in OPERATIONS:
-        code = instructions(listing, f"exported_{name}")
-        shown = [line for line in (describe(code, part) for part in loops(code)) if line]
-        print(f"{name}: {len(shown)} loops of 16 bytes at a time, {sum(n == 'call' for _, n, _ in code)} calls in all")
-        for line in shown:
-            print("  " + line)
+        for function in reached(found, f"exported_{name}", []):
+            code, calls = found[function]
+            shown = [line for line in (describe(code, part) for part in loops(code)) if line]
+            print(f"{name}, {function}: {len(shown)} loops of 16 bytes at a time, {len(calls)} calls in all")
+            for line in shown:
+                print("  " + line)
 
 
 if __name__ == "__main__":

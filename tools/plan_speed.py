@@ -56,7 +56,7 @@ pub extern "C" fn proved_read(out: &mut [u8], store: &[u8], a: usize, b: usize, 
     if store.len() - p < b {
         return;
     }
-    cells::xor_cells(out, 0, store, a, b, p);
+    cells::xor_cells(out, 0, &store[a..a + p], &store[b..b + p]);
 }
 """
 

@@ -10,7 +10,6 @@ import pathlib
 import textwrap
 
 LEAST_SYMBOLS, MOST_SYMBOLS = 2, 5
-BLOCK = 16  # rows of a block of the definition, whose last one is filled up
 CHANCE = {1: 1701240189117242, 2: 321322766291006, 3: 60690031188646, 4: 11462866226986}  # of a step that makes it so much worse, in 2^53
 DIGIT_BITS = MOST_SYMBOLS - 1  # bits of a read in a row: the second bank without the bit of its own symbol
 
@@ -143,13 +142,11 @@ def main():
     notes = [f"K = {K}: {' '.join(map(str, counts))}" for K, counts in index]
     words = [f"0x{w:016x}" for w in rows]
     stored = "".join(f"    {w}, // {note}\n" for w, note in zip(words, notes))
-    words += [f"0x{0:016x}"] * (-len(words) % BLOCK)
-    starts = range(0, len(words), BLOCK)
     crate = pathlib.Path(__file__).parent.parent / "crates" / "table"
 
     (crate / "src" / "rows.rt").write_text(
         "// The stored rows and their trie. Written by tools/table.py; nothing rests on how they were found.\n"
-        "// Statics, because a constant array would be stored anew at each use.\n\n"
+        "// Statics, because a constant array would be stored anew at each use; and a trie of indices, because it is constant data, without a heap.\n\n"
         "// Where the row of a request is: by the walk of specs/Table.antt.\n"
         f"pub static TRIE: [u8; {len(entries)}] = [\n"
         + textwrap.fill(", ".join(map(str, entries)) + ",", 99, initial_indent="    ", subsequent_indent="    ") + "\n];\n\n"
@@ -158,11 +155,8 @@ def main():
     (crate / "specs" / "Rows.antt").write_text(
         "-- The stored rows and their trie. Written by tools/table.py; nothing rests on how they were found.\n"
         "use Rattle.std.specs.Prelude.{List, [], ◌∷◌, ℕ}\n\n"
-        "-- The rows of a block.\n"
-        f"abbrev pub block_rows : ℕ\nblock_rows = {BLOCK}\n\n"
-        "-- The rows, in blocks.\n"
-        "unfoldable pub blocks : List (List ℕ)\nblocks =\n"
-        + "".join("    (" + lines(words[at:at + BLOCK], "    ", 4, " ∷").strip() + " []) ∷\n" for at in starts) + "    []\n\n"
+        "-- The rows.\n"
+        "unfoldable pub rows : List ℕ\nrows =\n" + lines(words, "    ", 4, " ∷") + "    []\n\n"
         "-- Where the row of a request is: by the walk of specs/Table.antt.\n"
         "unfoldable pub trie : List ℕ\ntrie =\n" + lines([str(e) for e in entries], "    ", 16, " ∷") + "    []\n", encoding="utf-8")
 

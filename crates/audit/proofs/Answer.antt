@@ -53,10 +53,6 @@ module _ (room sum : ℕ) where
   left_is true left f e = let fits = leb-true sum room f in let n : left ≡ room - sum = cc in omega arith
   left_is false left f e = cc
 
-  none_is : (fits : Bool) → leb sum room ≡ fits → None ≡ cond fits (Some (room - sum)) None → room < sum
-  none_is true f e = cc
-  none_is false f e = leb-false sum room f
-
   zero_is : (fits : Bool) → leb sum room ≡ fits → option_eq eqb (cond fits (Some (room - sum)) None) (Some 0) ≡ eqb room sum
   zero_is true f =
       let fits = leb-true sum room f in
@@ -67,9 +63,6 @@ module _ (room sum : ℕ) where
 module _ (room : ℕ) (counts : List ℕ) where
   pub within : (left : ℕ) → Some left ≡ rest_of room counts → room ≡ total counts + left
   within left e = left_is room (total counts) (leb (total counts) room) left refl e
-
-  pub past : None ≡ rest_of room counts → room < total counts
-  past e = none_is room (total counts) (leb (total counts) room) refl e
 
   -- whether they leave just nothing
   pub just : (r : Option ℕ) → r ≡ rest_of room counts → option_eq eqb r (Some 0) ≡ eqb room (total counts)

@@ -1,13 +1,12 @@
 -- The banks that some pairs open, as marks.
 use mathlib.Core.Path.{◌≡◌, refl, sym, ap, ◌∙◌}
 use mathlib.Core.Bool.{Bool, true, false, not, ◌||◌}
-use mathlib.Core.List.{[], ◌∷◌, ◌++◌}
+use mathlib.Core.List.{◌∷◌, ◌++◌}
 use Prim.Native.Nat.{ℕ, zero, suc, ◌<◌}
-use native.Mathlib.Nat.{div-eq_of_lt, not-suc-le-zero}
+use native.Mathlib.Nat.{not-suc-le-zero}
 use native.Mathlib.Omega.{arith}
 use borrow.Author.Tests.{eqb-true, eqb-false}
 use lib.Dec.{eqb, eqb-zero-suc}
-use lib.Pow.{pow_pos}
 use Rattle.bits.specs.Marks.{marked, toggled}
 use Rattle.bits.proofs.Marks.{toggled_itself, toggled_other}
 use Rattle.simplex.specs.Code.{Banks}
@@ -18,9 +17,6 @@ use Rattle.audit.specs.Parts.{bank_toggled}
 pub record Marks (set : ℕ) (banks : Banks) : Type 0 where
   pub each : (x : ℕ) → marked set x ≡ among x banks
   pub none : among 0 banks ≡ false
-
-pub no_marks : Marks 0 []
-no_marks = record { each = λ x. rw (div-eq_of_lt (pow_pos x)); none = refl }
 
 -- one bank more, which was not marked
 put_in : (s b x : ℕ) (t : Bool) → marked s b ≡ false → eqb x b ≡ t → marked (toggled s b) x ≡ (t || marked s x)

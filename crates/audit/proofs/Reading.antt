@@ -22,7 +22,7 @@ module _ (K : ℕ) where
   pub serves_sound : (i : ℕ) (p : Pair) → serves K i p ≡ true → Serves K i p
   serves_sound i p e = let t = simp both at e in omega (arith, leb-true, ltb-true, eqb-true)
 
-  serves_complete : (i : ℕ) (p : Pair) → Serves K i p → serves K i p ≡ true
+  pub serves_complete : (i : ℕ) (p : Pair) → Serves K i p → serves K i p ≡ true
   serves_complete i p s = simp both (omega (arith, le-leb, lt-ltb, eq-eqb))
 
   first_rest : (i : ℕ) (reads : List ℕ) (p : Pair) (pairs : List Pair) → serves_all K (i ∷ reads) (p ∷ pairs) ≡ true
@@ -59,7 +59,7 @@ module _ (K : ℕ) where
 
 -- ---- no bank is opened twice
 
-in_among : (b : ℕ) (banks : Banks) → In b banks → among b banks ≡ true
+pub in_among : (b : ℕ) (banks : Banks) → In b banks → among b banks ≡ true
 in_among b [] i = absurd i
 in_among b (x ∷ banks) (inl e) = ap (λ (t : Bool). t || among b banks) (eq-eqb b x e)
 in_among b (x ∷ banks) (inr i) = ap (λ (t : Bool). eqb b x || t) (in_among b banks i) ∙ or-true (eqb b x)
@@ -69,16 +69,16 @@ not_among b [] h = refl
 not_among b (x ∷ banks) h = ap₂ ◌||◌ (ne_eqb b x (λ e. h (inl e))) (not_among b banks (λ i. h (inr i)))
 
 module _ (b : ℕ) where
-  in_left : (xs ys : Banks) → In b xs → In b (xs ++ ys)
+  pub in_left : (xs ys : Banks) → In b xs → In b (xs ++ ys)
   in_left [] ys i = absurd i
   in_left (x ∷ xs) ys (inl e) = inl e
   in_left (x ∷ xs) ys (inr i) = inr (in_left xs ys i)
 
-  in_right : (xs ys : Banks) → In b ys → In b (xs ++ ys)
+  pub in_right : (xs ys : Banks) → In b ys → In b (xs ++ ys)
   in_right [] ys i = i
   in_right (x ∷ xs) ys i = inr (in_right xs ys i)
 
-  in_either : (xs ys : Banks) → In b (xs ++ ys) → In b xs ⊎ In b ys
+  pub in_either : (xs ys : Banks) → In b (xs ++ ys) → In b xs ⊎ In b ys
   in_either [] ys i = inr i
   in_either (x ∷ xs) ys (inl e) = inl (inl e)
   in_either (x ∷ xs) ys (inr i) = ⊎_elim (λ j. inl (inr j)) (λ j. inr j) (in_either xs ys i)

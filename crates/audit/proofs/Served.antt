@@ -17,7 +17,7 @@ use Rattle.simplex.proofs.Limit.{the_limit, fails_yields}
 use Rattle.simplex.proofs.Requests.{length_reads}
 use Rattle.simplex.proofs.Tables.{limit_most}
 use Rattle.audit.specs.Plan.{Pair, no_pair, opens, opened, is_plan, Serves, pair_at, IsPlan}
-use Rattle.audit.proofs.Places.{map_at}
+use Rattle.std.proofs.lemmas.List.{get_or-map}
 use Rattle.audit.proofs.Reading.{serves_at, sound}
 
 -- ---- one pair
@@ -59,7 +59,7 @@ served K P counts pairs plan = record {
   };
   yields = λ n h.
       let l : n < length pairs = rw (plan.one_each, ← (length_reads counts)) h in
-      rw (map_at opened pairs n no_pair [] l) (opened_yields K P (get_or (reads_of counts) n 0) (pair_at pairs n) (each n l));
+      rw (get_or-map opened pairs n no_pair [] l) (opened_yields K P (get_or (reads_of counts) n 0) (pair_at pairs n) (each n l));
 }
   where
     each : (n : ℕ) → n < length pairs → Serves K (get_or (reads_of counts) n 0) (pair_at pairs n)

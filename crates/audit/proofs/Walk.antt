@@ -1,147 +1,131 @@
--- The audit's walk over the pairs, from the last to the first: what holds of those from pair n on, and the banks that they open.
-use mathlib.Core.Path.{◌≡◌, refl, sym, ap, ap₂, ◌∙◌}
-use mathlib.Core.Bool.{Bool, true, false, not, ◌&&◌, and-true, and-false}
+-- The audit's walk over the pairs: what it has found of those before pair n, and the banks that they open.
+use mathlib.Core.Path.{◌≡◌, refl, sym, ◌∙◌}
+use mathlib.Core.Logic.{◌≢◌, inl, inr, ⊎_elim}
+use mathlib.Core.Bool.{Bool, true, false, false≢true}
 use mathlib.Core.List.{List, [], ◌∷◌, ◌++◌}
-use Prim.Native.Nat.{ℕ, zero, suc, ◌+◌, ◌-◌, ◌*◌, ◌/◌, ◌≤◌, ◌<◌}
+use Prim.Native.Nat.{ℕ, zero, suc, ◌+◌, ◌/◌, ◌≤◌, ◌<◌}
+use native.Mathlib.Nat.{not-suc-le-zero, le_of_suc-le-suc, eq-or-lt_of_le}
+use native.Mathlib.Numerals.{add-one}
 use native.Mathlib.Omega.{arith}
-use borrow.Author.Tests.{ne_eqb}
-use lib.ListN.{length, get_or, drop, drop_of_length-le}
-use lib.Seq.{drop-cons}
+use lib.ListN.{length, get_or}
+use Rattle.std.proofs.lemmas.Bool.Decides.{eqb_tells}
 use Rattle.bits.specs.Marks.{marked}
 use Rattle.simplex.specs.Code.{Banks}
-use Rattle.simplex.specs.Limit.{total, reads_of}
-use Rattle.simplex.proofs.Requests.{length_reads}
-use Rattle.audit.specs.Plan.{Pair, opens, opened, serves, serves_all, banks_opened, among, none_twice, is_plan}
-use Rattle.audit.specs.Audit.{pairs_of, pair_in}
+use Rattle.simplex.specs.Limit.{total, reads_of, In}
+use Rattle.audit.specs.Plan.{Pair, opens, opened, serves, among, is_plan, Serves, start, pair_at, IsPlan}
+use Rattle.audit.specs.Audit.{pairs_of}
 use Rattle.audit.specs.Parts.{bank_toggled}
-use Rattle.audit.proofs.Reading.{serves_sound}
-use Rattle.audit.proofs.Marks.{Marks, no_marks, more_pair}
-use Rattle.audit.proofs.Pairs.{length_pairs, pair_at_lem}
+use Rattle.audit.proofs.Places.{place_less, read_at}
+use Rattle.audit.proofs.Reading.{serves_sound, serves_complete, serves_at, in_among, in_left, in_right, in_either, sound, complete}
+use Rattle.audit.proofs.Marks.{Marks, more_pair}
+use Rattle.audit.proofs.Pairs.{length_pairs}
 
--- ---- one pair more, before the others
+-- ---- the banks of a pair
 
-once_more : (a b : ℕ) (banks : Banks) → b < a → among 0 banks ≡ false
-    → none_twice (opens a b ++ banks) ≡ (not (among a banks) && (not (among b banks) && none_twice banks))
-once_more a zero banks h e = rw e
-once_more a (suc b) banks h e = rw (ne_eqb a (suc b) (λ q. omega arith))
+pub opens_first : (a b : ℕ) → In a (opens a b)
+opens_first a zero = inl refl
+opens_first a (suc b) = inl refl
 
-shuffle : (s t u v : Bool) → (s && (t && (u && v))) ≡ (t && (u && (s && v)))
-shuffle true t u v = refl
-shuffle false t u v = simp and-false
+-- bank 0 is no bank
+pub opens_second : (a b : ℕ) → b ≢ 0 → In b (opens a b)
+opens_second a zero h = absurd (h refl)
+opens_second a (suc b) h = inr (inl refl)
 
--- the tests of a plan, of the pairs for some reads
-abbrev fine : ℕ → List ℕ → List Pair → Bool
-fine K reads pairs = serves_all K reads pairs && none_twice (banks_opened pairs)
+among_in : (b : ℕ) (banks : Banks) → among b banks ≡ true → In b banks
+among_in b [] e = absurd (false≢true e)
+among_in b (x ∷ banks) e = ⊎_elim (λ w. inl w.1) (λ w. inr (among_in b banks (rw w.0 at e))) (eqb_tells b x)
 
-pub record Walked (K : ℕ) (reads : List ℕ) (pairs : List Pair) (used : ℕ) : Type 0 where
-  pub passed : fine K reads pairs ≡ true
-  pub marks : Marks used (banks_opened pairs)
+-- what neither bank is
+off : (used a b x : ℕ) → marked used a ≡ false → marked used b ≡ false → In x (opens a b) → marked used x ≡ false
+off used a zero x ha hb (inl e) = rw e ha
+off used a zero x ha hb (inr i) = absurd i
+off used a (suc b) x ha hb (inl e) = rw e ha
+off used a (suc b) x ha hb (inr (inl e)) = rw e hb
+off used a (suc b) x ha hb (inr (inr i)) = absurd i
 
-module _ (K i : ℕ) (p : Pair) (reads : List ℕ) (pairs : List Pair) (used : ℕ) (w : Walked K reads pairs used) (e : serves K i p ≡ true) where
-  turn : fine K (i ∷ reads) (p ∷ pairs) ≡ (not (marked used p.a) && not (marked used p.b))
-  turn =
-      let banks : Banks = banks_opened pairs in
-      ap₂ (λ (x y : Bool). x && serves_all K reads pairs && y) e (once_more p.a p.b banks (serves_sound K i p e).above w.marks.none)
-      ∙ shuffle (serves_all K reads pairs) (not (among p.a banks)) (not (among p.b banks)) (none_twice banks)
-      ∙ rw (w.passed, and-true) (sym (ap₂ (λ (x y : Bool). not x && not y) (w.marks.each p.a) (w.marks.each p.b)))
+-- ---- the banks that the pairs before pair n open, those of the last first
 
-  more : marked used p.a ≡ false → marked used p.b ≡ false → Walked K (i ∷ reads) (p ∷ pairs) (bank_toggled (bank_toggled used p.b) p.a)
-  more ha hb =
+abbrev pub met : List Pair → ℕ → Banks
+met pairs zero = []
+met pairs (suc n) = opened (pair_at pairs n) ++ met pairs n
+
+module _ (b : ℕ) (pairs : List Pair) where
+  met_by : (n : ℕ) → In b (met pairs n) → (m : ℕ) × (m < n) × In b (opened (pair_at pairs m))
+  met_by zero i = absurd i
+  met_by (suc n) i =
+      ⊎_elim (λ j. (n, omega arith, j)) (λ j. let t = met_by n j in (t.0, omega (arith, t.1), t.2))
+      (in_either b (opened (pair_at pairs n)) (met pairs n) i)
+
+  met_in : (m n : ℕ) → m < n → In b (opened (pair_at pairs m)) → In b (met pairs n)
+  met_in m zero l i = absurd (not-suc-le-zero l)
+  met_in m (suc n) l i =
+      ⊎_elim (λ (e : m ≡ n). in_left b (opened (pair_at pairs n)) (met pairs n) (rw e at i))
+      (λ (h : m < n). in_right b (opened (pair_at pairs n)) (met pairs n) (met_in m n h i)) (eq-or-lt_of_le (le_of_suc-le-suc l))
+
+-- ---- the walk
+
+-- serve: each of them serves the symbol of its read. once: no two open the same bank. marks: their banks are marked.
+pub record Walked (K : ℕ) (reads : List ℕ) (pairs : List Pair) (n used : ℕ) : Type 0 where
+  pub serve : (m : ℕ) → m < n → Serves K (get_or reads m 0) (pair_at pairs m)
+  pub once : (l m b : ℕ) → l < m → m < n → In b (opened (pair_at pairs l)) → In b (opened (pair_at pairs m)) → ⊥
+  pub marks : Marks used (met pairs n)
+
+-- The turn of pair n, which is p and is to serve symbol i.
+pub record Turn (K : ℕ) (counts : List ℕ) (pairs : List Pair) (n used i : ℕ) (p : Pair) : Type 0 where
+  pub within : n < total counts
+  pub symbol : i ≡ get_or (reads_of counts) n 0
+  pub pair : p ≡ pair_at pairs n
+  pub walked : Walked K (reads_of counts) pairs n used
+
+module _ (K : ℕ) (counts : List ℕ) (pairs : List Pair) where
+  no_plan : (IsPlan K counts pairs → ⊥) → is_plan K counts pairs ≡ false
+  no_plan h = by (is_plan K counts pairs) refl
+    where
+      by : (t : Bool) → is_plan K counts pairs ≡ t → is_plan K counts pairs ≡ false
+      by true e = absurd (h (sound K counts pairs e))
+      by false e = e
+
+module _ {K : ℕ} {counts : List ℕ} {pairs : List Pair} {n used i : ℕ} {p : Pair} (t : Turn K counts pairs n used i p) where
+  pub not_served : serves K i p ≡ false → is_plan K counts pairs ≡ false
+  not_served e =
+      no_plan K counts pairs
+      (λ plan. false≢true (sym e ∙ serves_complete K i p (rw (t.symbol, t.pair) (serves_at K counts pairs plan n t.within))))
+
+  open_twice : (b : ℕ) → In b (opened p) → marked used b ≡ true → is_plan K counts pairs ≡ false
+  open_twice b i e =
+      let m = met_by b pairs n (among_in b (met pairs n) (sym (t.walked.marks.each b) ∙ e)) in
+      no_plan K counts pairs (λ plan. plan.once m.0 n b m.1 (omega (arith, plan.one_each)) m.2 (rw t.pair at i))
+
+  pub first_met : marked used p.a ≡ true → is_plan K counts pairs ≡ false
+  first_met = open_twice p.a (opens_first p.a p.b)
+
+  pub second_met : marked used p.b ≡ true → is_plan K counts pairs ≡ false
+  second_met e =
+      open_twice p.b (opens_second p.a p.b (λ z. false≢true (sym (t.walked.marks.each 0 ∙ t.walked.marks.none) ∙ rw z at e))) e
+
+  pub one_more : serves K i p ≡ true → marked used p.a ≡ false → marked used p.b ≡ false
+      → Walked K (reads_of counts) pairs (n + 1) (bank_toggled (bank_toggled used p.b) p.a)
+  one_more e ha hb =
       let s = serves_sound K i p e in
-      record { passed = turn ∙ rw (ha, hb); marks = more_pair used p.a p.b (banks_opened pairs) s.above w.marks hb ha }
+      let new : (m b : ℕ) → m < n → In b (opened (pair_at pairs m)) → In b (opened p) → ⊥ =
+      λ m b h i j. false≢true (sym (off used p.a p.b b ha hb j) ∙ t.walked.marks.each b ∙ in_among b (met pairs n) (met_in b pairs m n h i)) in
+      rw (add-one n) (record {
+        serve = λ m h.
+            ⊎_elim (λ (q : m ≡ n). rw (q, ← t.symbol, ← t.pair) s) (λ (k : m < n). t.walked.serve m k) (eq-or-lt_of_le (le_of_suc-le-suc h));
+        once = λ m o b h k i j.
+            ⊎_elim (λ (q : o ≡ n). new m b (omega arith) i (rw (q, ← t.pair) at j)) (λ (r : o < n). t.walked.once m o b h r i j)
+            (eq-or-lt_of_le (le_of_suc-le-suc k));
+        marks = rw (← t.pair) (more_pair used p.a p.b (met pairs n) s.above t.walked.marks hb ha);
+      })
 
--- ---- where the pairs from pair n on are no plan, all of them are none
-
-twice_tail : (xs banks : Banks) → none_twice banks ≡ false → none_twice (xs ++ banks) ≡ false
-twice_tail [] banks e = e
-twice_tail (x ∷ xs) banks e = simp (twice_tail xs banks e, and-false)
-
-false_tail : (x s t u : Bool) → (t ≡ false → u ≡ false) → (s && t) ≡ false → (x && s && u) ≡ false
-false_tail x true t u f e = simp (f e, and-false)
-false_tail x false t u f e = simp and-false
-
-fine_tail : (K i : ℕ) (p : Pair) (reads : List ℕ) (pairs : List Pair) → fine K reads pairs ≡ false → fine K (i ∷ reads) (p ∷ pairs) ≡ false
-fine_tail K i p reads pairs =
-    false_tail (serves K i p) (serves_all K reads pairs) (none_twice (banks_opened pairs)) (none_twice (banks_opened (p ∷ pairs)))
-    (twice_tail (opened p) (banks_opened pairs))
-
-uneven : (K : ℕ) (reads : List ℕ) (pairs : List Pair) → (length pairs ≡ length reads → ⊥) → fine K reads pairs ≡ false
-uneven K [] [] h = absurd (h refl)
-uneven K [] (p ∷ pairs) h = refl
-uneven K (i ∷ reads) [] h = refl
-uneven K (i ∷ reads) (p ∷ pairs) h = fine_tail K i p reads pairs (uneven K reads pairs (λ e. h (ap suc e)))
-
-fine_from : (K n : ℕ) (reads : List ℕ) (pairs : List Pair) → fine K (drop n reads) (drop n pairs) ≡ false → fine K reads pairs ≡ false
-fine_from K zero reads pairs e = e
-fine_from K (suc n) [] [] e = e
-fine_from K (suc n) [] (p ∷ pairs) e = refl
-fine_from K (suc n) (i ∷ reads) [] e = refl
-fine_from K (suc n) (i ∷ reads) (p ∷ pairs) e = fine_tail K i p reads pairs (fine_from K n reads pairs e)
-
--- ---- the walk over the pairs of some bytes
-
-abbrev pub From : ℕ → List ℕ → List ℕ → ℕ → ℕ → Type 0
-From K counts bytes n used = Walked K (drop n (reads_of counts)) (drop n (pairs_of bytes)) used
-
--- before the first turn, and after the last
-pub none_yet : (K : ℕ) (counts bytes : List ℕ) (n : ℕ) → total counts ≤ n → length bytes / 2 ≤ n → From K counts bytes n 0
-none_yet K counts bytes n h l =
-    let r : length (reads_of counts) ≤ n = rw (length_reads counts) h in
-    let p : length (pairs_of bytes) ≤ n = rw (length_pairs bytes) l in
-    rw (drop_of_length-le (reads_of counts) r, drop_of_length-le (pairs_of bytes) p) record { passed = refl; marks = no_marks }
-
-pub all_passed : (K : ℕ) (counts bytes : List ℕ) (used : ℕ) → From K counts bytes 0 used → is_plan K counts (pairs_of bytes) ≡ true
-unfolding is_plan
-all_passed K counts bytes used w = w.passed
+module _ (K : ℕ) (counts : List ℕ) (pairs : List Pair) where
+  pub all_passed : (n used : ℕ) → length pairs ≡ total counts → total counts ≤ n → Walked K (reads_of counts) pairs n used → is_plan K counts pairs ≡ true
+  all_passed n used e l w = complete K counts pairs (record {
+    one_each = e;
+    in_order = λ i j h.
+        rw (read_at counts i j h) at (w.serve (start counts i + j) (omega (arith, place_less counts i j h)));
+    once = λ m o b h k. w.once m o b h (omega arith);
+  })
 
 pub not_as_many : (K : ℕ) (counts bytes : List ℕ) → (length bytes / 2 ≡ total counts → ⊥) → is_plan K counts (pairs_of bytes) ≡ false
-unfolding is_plan
-not_as_many K counts bytes h = uneven K (reads_of counts) (pairs_of bytes) (λ e. h (sym (length_pairs bytes) ∙ e ∙ length_reads counts))
-
--- The turn of pair m, which is to serve symbol i: those from pair n on are passed.
-pub record Turn (K : ℕ) (counts bytes : List ℕ) (m n used i : ℕ) : Type 0 where
-  pub next : suc m ≡ n
-  pub within : n ≤ total counts
-  pub even : length bytes ≡ total counts * 2
-  pub symbol : i ≡ get_or (reads_of counts) m 0
-  pub walked : From K counts bytes n used
-
-module _ {K : ℕ} {counts bytes : List ℕ} {m n used i : ℕ} (t : Turn K counts bytes m n used i) where
-  reads_at : drop m (reads_of counts) ≡ i ∷ drop n (reads_of counts)
-  reads_at =
-      let l : m < length (reads_of counts) = rw (length_reads counts) (omega arith) in
-      drop-cons (reads_of counts) m 0 l ∙ ap₂ (λ (x k : ℕ). x ∷ drop k (reads_of counts)) (sym t.symbol) t.next
-
-  pairs_at : drop m (pairs_of bytes) ≡ pair_in bytes m ∷ drop n (pairs_of bytes)
-  pairs_at = pair_at_lem bytes m (omega arith) ∙ ap (λ (k : ℕ). pair_in bytes m ∷ drop k (pairs_of bytes)) t.next
-
-  no : fine K (i ∷ drop n (reads_of counts)) (pair_in bytes m ∷ drop n (pairs_of bytes)) ≡ false → is_plan K counts (pairs_of bytes) ≡ false
-  unfolding is_plan
-  no e = fine_from K m (reads_of counts) (pairs_of bytes) (rw (reads_at, pairs_at) e)
-
-  pub not_served : serves K i (pair_in bytes m) ≡ false → is_plan K counts (pairs_of bytes) ≡ false
-  not_served e = no (rw e)
-
-  tests : serves K i (pair_in bytes m) ≡ true → fine K (i ∷ drop n (reads_of counts)) (pair_in bytes m ∷ drop n (pairs_of bytes))
-      ≡ (not (marked used (pair_in bytes m).a) && not (marked used (pair_in bytes m).b))
-  tests = turn K i (pair_in bytes m) (drop n (reads_of counts)) (drop n (pairs_of bytes)) used t.walked
-
-  pub first_met : serves K i (pair_in bytes m) ≡ true → marked used (pair_in bytes m).a ≡ true → is_plan K counts (pairs_of bytes) ≡ false
-  first_met e f = no (tests e ∙ rw f)
-
-  pub second_met : serves K i (pair_in bytes m) ≡ true → marked used (pair_in bytes m).b ≡ true → is_plan K counts (pairs_of bytes) ≡ false
-  second_met e f = no (tests e ∙ simp (f, and-false))
-
-  pub one_more : serves K i (pair_in bytes m) ≡ true → marked used (pair_in bytes m).a ≡ false → marked used (pair_in bytes m).b ≡ false
-      → From K counts bytes m (bank_toggled (bank_toggled used (pair_in bytes m).b) (pair_in bytes m).a)
-  one_more e ha hb =
-      rw (reads_at, pairs_at) (more K i (pair_in bytes m) (drop n (reads_of counts)) (drop n (pairs_of bytes)) used t.walked e ha hb)
-
--- a turn, from what the loop knows of it
-pub turn_of : {K : ℕ} {counts bytes : List ℕ} {n used i : ℕ} → 1 ≤ n → n ≤ total counts → length bytes ≡ total counts * 2
-    → i ≡ get_or (reads_of counts) (n - 1) 0 → From K counts bytes n used → Turn K counts bytes (n - 1) n used i
-turn_of l w e s f = record { next = omega arith; within = w; even = e; symbol = s; walked = f }
-
--- the pair of a turn, by its two bytes
-pub pair_read : (bytes : List ℕ) (m a b : ℕ) → a ≡ get_or bytes (m * 2) 0 → b ≡ get_or bytes (m * 2 + 1) 0 → record { a = a; b = b } ≡ pair_in bytes m
-pair_read bytes m a b e f = λ j. record { a = e j; b = f j }
+not_as_many K counts bytes h = no_plan K counts (pairs_of bytes) (λ plan. h (sym (length_pairs bytes) ∙ plan.one_each))

@@ -23,10 +23,13 @@ opens a (suc b) = a ∷ suc b ∷ []
 abbrev pub opened : Pair → Banks
 opened p = opens p.a p.b
 
--- The pair serves symbol i: a is 1 to N and b is 0 to N, a > b, and a XOR b = 2^i.
+-- The pair serves symbol i in a group of N banks: a is 1 to N and b is 0 to N, a > b, and a XOR b = 2^i.
+abbrev pub serves_within : (N i : ℕ) → Pair → Bool
+serves_within N i p = between 1 N p.a && between 0 N p.b && ltb p.b p.a && eqb (bit_xor p.a p.b) (2 ^ i)
+
+-- The same in a group of K symbols.
 abbrev pub serves : (K i : ℕ) → Pair → Bool
-serves K i p =
-    between 1 (banks_of K) p.a && between 0 (banks_of K) p.b && ltb p.b p.a && eqb (bit_xor p.a p.b) (2 ^ i)
+serves K i p = serves_within (banks_of K) i p
 
 -- One pair for each read, in the order of the reads.
 abbrev pub serves_all : ℕ → List ℕ → List Pair → Bool
@@ -54,7 +57,7 @@ none_twice (b ∷ banks) = not (among b banks) && none_twice banks
 unfoldable pub is_plan : ℕ → List ℕ → List Pair → Bool
 is_plan K counts pairs = serves_all K (reads_of counts) pairs && none_twice (banks_opened pairs)
 
--- The same in words. A pair that serves symbol i:
+-- The tests in words. A pair that serves symbol i:
 pub record Serves (K i : ℕ) (p : Pair) : Type 0 where
   pub first_from : 1 ≤ p.a
   pub first_to : p.a ≤ banks_of K

@@ -4,20 +4,21 @@
 ghost use Rattle.std.specs.Prelude.{◌≡◌, ◌*◌, ◌<◌, length, get_or};
 ghost use Rattle.simplex.specs.Shape.{SymbolsInRange, most_symbols};
 ghost use Rattle.simplex.specs.Limit.{total, reads_of};
-ghost use Rattle.audit.specs.Plan.{serves, is_plan};
+ghost use Rattle.audit.specs.Plan.{serves_within, is_plan};
 ghost use Rattle.audit.specs.Audit.{all_zero, counts_refusal, rest_of, pairs_of, audit_of};
 ghost use Rattle.audit.specs.Parts.{bank_toggled};
 ghost use Rattle.audit.specs.Laws.{ThePlans};
 
 use refusals::{Reason, Refusal, Verdict, check, is_between};
-use simplex::{LEAST_SYMBOLS, MOST_SYMBOLS};
+use simplex::{Group, LEAST_SYMBOLS, MOST_SYMBOLS};
+use std::iter;
 
 // Carries the laws of plans. It does nothing.
 pub fn the_plans()
     ensures { ThePlans }
 {}
 
-// Whether every count is 0.
+// Whether every count is 0. (Of the planner's `is_collision_free`, a like test with the bound 1, the reason stands there.)
 fn are_zero(counts: &[usize]) -> bool
     ensures { result ≡ all_zero counts.now }
 {
@@ -25,6 +26,7 @@ fn are_zero(counts: &[usize]) -> bool
 }
 
 // The refusal of a request vector by its form: 1, then 11.
+// K and the counts come apart here and in `audit`, since whether they are a request is what is judged.
 pub fn judge_counts(k: usize, counts: [usize; MOST_SYMBOLS]) -> Verdict
     ensures { result ≡ counts_refusal k counts }
 {
@@ -40,41 +42,18 @@ pub fn judge_counts(k: usize, counts: [usize; MOST_SYMBOLS]) -> Verdict
 pub fn take_from(room: usize, counts: [usize; MOST_SYMBOLS]) -> Option<usize>
     ensures { result ≡ rest_of room counts }
 {
-    let mut left = room;
-    for c in &counts {
-        left = left.checked_sub(*c)?;
-    }
-    Some(left)
+    counts.iter().try_fold(room, |left, c| left.checked_sub(*c))
 }
 
-// The symbol of read n.
-fn symbol_of(counts: [usize; MOST_SYMBOLS], n: usize) -> usize
-    requires { n < total counts }
-    ensures { (result ≡ get_or (reads_of counts) n 0) × (result < most_symbols) }
+// Whether the pair of banks a and b serves symbol i in a group.
+fn serves_symbol(group: Group, i: usize, a: usize, b: usize) -> bool
+    requires { i < most_symbols }
+    ensures { result ≡ serves_within group.banks i (record { a = a; b = b }) }
 {
-    let mut ahead = n;
-    for (i, c) in counts.iter().enumerate() {
-        if ahead < *c {
-            return i;
-        }
-        ahead -= *c;
-    }
-    unreachable!()
+    (1..=group.banks).contains(&a) && b <= group.banks && b < a && a ^ b == 1 << i
 }
 
-// Whether the pair of banks a and b serves symbol i.
-fn serves_symbol(k: usize, i: usize, a: usize, b: usize) -> bool
-    requires { SymbolsInRange k × (i < most_symbols) }
-    ensures { result ≡ serves k i (record { a = a; b = b }) }
-{
-    let group = simplex::group_of(k);
-    if a < 1 || group.banks < a || group.banks < b || a <= b {
-        return false;
-    }
-    a ^ b == 1 << i
-}
-
-// The marks with that of bank b toggled. Bank 0 is no bank.
+// The marks with that of bank b toggled. No `Option`: the rules' pairs have b = 0 for no second bank, and the definitions take it so.
 fn toggle_bank(set: u64, b: usize) -> u64
     requires { b < 64 }
     ensures { result ≡ bank_toggled set b }
@@ -85,21 +64,25 @@ fn toggle_bank(set: u64, b: usize) -> u64
     bits::toggle(set, b)
 }
 
-// Whether the bytes, two for each read, are a plan for the counts. From the last pair to the first, since the test of a list is that of its
-// first pair and of the rest: bank b is marked in `used` where a pair after the one at hand opens it.
+// Whether the bytes, two for each read, are a plan for the counts. Bank b is marked in `used` where a pair before the one at hand opens it.
+// K and the counts still come apart: a type for a judged request would have no use but this one call of `audit`.
+#[tactic(auto, using(crate::proofs::Pairs::second_below))]
 fn audit_pairs(k: usize, counts: [usize; MOST_SYMBOLS], bytes: &[u8]) -> bool
     requires symbols_in_range { SymbolsInRange k }
     requires even { length bytes.now ≡ total counts * 2 }
     ensures { result ≡ is_plan k counts (pairs_of bytes.now) }
 {
+    let group = simplex::group_of(k);
     let mut used = 0;
-    for n in (0..bytes.len() / 2).rev() {
-        let a = usize::from(bytes[n * 2]);
-        let b = usize::from(bytes[n * 2 + 1]);
-        if !serves_symbol(k, symbol_of(counts, n), a, b) {
-            return false;
-        }
-        if bits::is_marked(used, a) || bits::is_marked(used, b) {
+    let (pairs, _) = bytes.as_chunks::<2>();
+    // The symbol of each read: the reads stand symbol by symbol.
+    let symbols = counts
+        .iter()
+        .enumerate()
+        .flat_map(|(i, c)| iter::repeat_n(i, *c));
+    for ([a, b], i) in pairs.iter().zip(symbols) {
+        let (a, b) = (usize::from(*a), usize::from(*b));
+        if !serves_symbol(group, i, a, b) || bits::is_marked(used, a) || bits::is_marked(used, b) {
             return false;
         }
         used = toggle_bank(toggle_bank(used, b), a);

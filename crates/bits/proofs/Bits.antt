@@ -1,23 +1,22 @@
 -- Numbers by their bits: when two numbers differ in one bit, and that numbers with the same bits are equal.
 use mathlib.Core.Path.{◌≡◌, refl, sym, ap, ap₂, ◌∙◌}
 use mathlib.Core.Logic.{◌≢◌}
-use Prim.Native.Nat.{ℕ, zero, suc, ◌+◌, ◌*◌, ◌/◌, ◌%◌, ◌^◌, ◌<◌, zero-le, suc-le-suc}
-use native.Mathlib.Nat.{le_of_suc-le-suc, not-suc-le-zero, add_comm, zero-div, mod-eq_of_lt, pow-suc}
+use Prim.Native.Nat.{ℕ, zero, suc, ◌+◌, ◌*◌, ◌/◌, ◌%◌, ◌^◌, ◌<◌}
+use native.Mathlib.Nat.{add_comm, mod-eq_of_lt, pow-suc}
 use native.Mathlib.Omega.{arith}
-use native.Mathlib.Numerals.{one-add}
 use lib.Arith.{digits_lt}
-use lib.Bits.{bit_xor, xor_zero_r, xor_self}
-use lib.Pow.{shr-shr, high}
-use Rattle.bits.proofs.Digits.{xor_half, xor_low, xor_assoc}
+use lib.Bits.{bit_xor, xor_assoc, xor_zero_r, xor_self}
+use lib.Pow.{high}
+use Rattle.std.proofs.lemmas.Nat.Bits.{bit_at-suc, bit_at-zero, bit_at_cat_low, same_from_bits_below}
+use Rattle.bits.proofs.Digits.{xor_half, xor_low}
 use Rattle.bits.specs.Bits.{bit}
 
 -- h is the half of b
 pub bit_half : (b i : ℕ) {h : ℕ} → b / 2 ≡ h → bit b (suc i) ≡ bit h i
-bit_half b i e =
-    ap (λ (n : ℕ). n % 2) (ap (λ (n : ℕ). b / 2 ^ n) (sym (one-add i)) ∙ sym (shr-shr b 1 i)) ∙ ap (λ (n : ℕ). bit n i) e
+bit_half b i e = bit_at-suc b i ∙ ap (λ (n : ℕ). bit n i) e
 
 pub bit_zero : (i : ℕ) → bit 0 i ≡ 0
-bit_zero i = ap (λ (n : ℕ). n % 2) (zero-div (2 ^ i))
+bit_zero = bit_at-zero
 
 -- so n has no bit from n on
 pub below_power : (n : ℕ) → n < 2 ^ n
@@ -26,21 +25,12 @@ below_power (suc n) = omega (arith, below_power n, pow-suc 2 n)
 
 -- two numbers of K bits, all of them the same
 pub same_bits : (K a b : ℕ) → a < 2 ^ K → b < 2 ^ K → ((i : ℕ) → i < K → bit a i ≡ bit b i) → a ≡ b
-same_bits zero a b ha hb same = omega arith
-same_bits (suc K) a b ha hb same =
-    let ih : a / 2 ≡ b / 2 =
-    same_bits K (a / 2) (b / 2) (omega (arith, pow-suc 2 K)) (omega (arith, pow-suc 2 K))
-    (λ i h. sym (bit_half a i refl) ∙ same (suc i) (suc-le-suc h) ∙ bit_half b i refl) in
-    omega (arith, same 0 (suc-le-suc zero-le))
+same_bits = same_from_bits_below
 
 -- ---- one more bit, d, above the n bits of x
 
 pub bit_below : (x d n i : ℕ) → i < n → bit (x + d * 2 ^ n) i ≡ bit x i
-bit_below x d zero i h = absurd (not-suc-le-zero h)
-bit_below x d (suc n) zero h = omega (arith, ap (λ (m : ℕ). d * m) (pow-suc 2 n))
-bit_below x d (suc n) (suc i) h =
-    bit_half (x + d * 2 ^ suc n) i (omega (arith, ap (λ (m : ℕ). d * m) (pow-suc 2 n))) ∙ bit_below (x / 2) d n i (le_of_suc-le-suc h)
-    ∙ sym (bit_half x i refl)
+bit_below x d n i h = ap (λ (m : ℕ). bit m i) (add_comm x (d * 2 ^ n)) ∙ bit_at_cat_low d n x i h
 
 pub bit_top : (x d n : ℕ) → x < 2 ^ n → d < 2 → bit (x + d * 2 ^ n) n ≡ d
 bit_top x d n hx hd = ap (λ (m : ℕ). m / 2 ^ n % 2) (add_comm x (d * 2 ^ n)) ∙ ap (λ (m : ℕ). m % 2) (high d n hx) ∙ mod-eq_of_lt hd

@@ -3,28 +3,28 @@ use mathlib.Core.Path.{◌≡◌, refl, sym, ap, ap₂, ◌∙◌}
 use mathlib.Core.Logic.{◌≢◌, ⊎_elim}
 use mathlib.Core.Bool.{Bool, true, false, not, ◌&&◌, cond, false≢true}
 use Prim.Native.Nat.{ℕ, zero, suc, ◌+◌, ◌-◌, ◌*◌, ◌/◌, ◌%◌, ◌^◌, ◌≤◌, ◌<◌}
-use native.Mathlib.Nat.{le_refl, div-eq_of_lt, one-mul, eq-or-lt_of_le, le_of_suc-le-suc, mod-lt, mod-eq_of_lt, mod-one, add-zero, zero-add, div-one, pow-suc}
+use native.Mathlib.Nat.{le_refl, div-eq_of_lt, one-mul, eq-or-lt_of_le, le_of_suc-le-suc, mod-lt, mod-eq_of_lt, mod-one, add-zero, div-one, pow-suc}
 use native.Mathlib.Omega.{arith}
 use native.Mathlib.Decide.{le_ind}
 use borrow.Author.Tests.{eq-eqb, ne_eqb, eqb-true, eqb-false, ltb-true, ltb-false}
-use lib.Arith.{bin_ind}
 use lib.Bits.{bit_xor, xor_shr, xor_zero_r}
 use lib.Count.{ones, ones_cat}
 use lib.Dec.{eqb, ltb, lit<}
 use lib.Pow.{pow_pos, pow-lt, shl_exact, shr-shr, mod-pow-add}
+use Rattle.std.proofs.lemmas.Nat.Bits.{bit_at-pow_same, bit_at-pow_other, same_from_bits}
 use Rattle.bits.specs.Bits.{bit}
 use Rattle.bits.specs.Marks.{marked, toggled, none_from, how_many}
 use Rattle.bits.proofs.Digits.{digit, low_lt, xor_low}
-use Rattle.bits.proofs.Bits.{bit_half, bit_zero, bit_added, bit_other}
+use Rattle.bits.proofs.Bits.{bit_half, bit_zero}
 
 -- ---- one mark toggled
 
 -- 2^i has bit i alone
 pub power_itself : (i : ℕ) → bit (2 ^ i) i ≡ 1
-power_itself i = rw (zero-add (2 ^ i)) at (bit_added 0 i (bit_zero i))
+power_itself = bit_at-pow_same
 
 power_other : (i j : ℕ) → i ≢ j → bit (2 ^ i) j ≡ 0
-power_other i j ne = rw (zero-add (2 ^ i)) at (bit_other 0 i j (bit_zero i) (λ e. ne (sym e)) ∙ bit_zero j)
+power_other i j ne = bit_at-pow_other i j (λ e. ne (sym e))
 
 bit_toggled : (set i j : ℕ) → bit (toggled set i) j ≡ bit_xor (bit set j) (bit (2 ^ i) j)
 bit_toggled set i j = ap (λ (n : ℕ). n % 2) (xor_shr set (2 ^ i) j) ∙ xor_low (set / 2 ^ j) (2 ^ i / 2 ^ j)
@@ -66,9 +66,7 @@ unmarked i = ap (λ (d : ℕ). eqb d 1) (bit_zero i)
 
 -- a number whose bits are all 0
 no_bits : (n : ℕ) → ((i : ℕ) → bit n i ≡ 0) → n ≡ 0
-no_bits =
-    bin_ind (λ (n : ℕ). ((i : ℕ) → bit n i ≡ 0) → n ≡ 0) (λ h. refl)
-    (λ n ih h. omega (arith, ih (λ i. sym (bit_half n i refl) ∙ h (suc i)), h 0))
+no_bits n h = same_from_bits n 0 (λ i. h i ∙ sym (bit_zero i))
 
 pub marked_none : (set n : ℕ) → ((i : ℕ) → n ≤ i → marked set i ≡ false) → none_from set n ≡ true
 marked_none set n off = eq-eqb _ _ (no_bits (set / 2 ^ n) (λ i. bit_shr set n i ∙ zero_bit (n + i) (off (n + i) (omega arith))))

@@ -3,20 +3,22 @@ use mathlib.Core.Path.{◌≡◌, refl, sym, ap, ◌∙◌}
 use mathlib.Core.Bool.{Bool, true, false, ◌&&◌, not, cond, false≢true}
 use mathlib.Core.Logic.{◌≢◌, ⊎_elim}
 use Rattle.std.specs.Prelude.{Option, Some, None}
-use Prim.Native.Nat.{ℕ, zero, suc, ◌+◌, ◌-◌, ◌*◌, ◌/◌, ◌%◌, ◌^◌, ◌≤◌, ◌<◌}
-use native.Mathlib.Nat.{div-eq_of_lt, one-mul, zero-mul, pow-suc, eq-or-lt_of_le, le_of_suc-le-suc, div-le_self, div-lt_iff_lt-mul}
+use Prim.Native.Nat.{ℕ, zero, suc, min, ◌-◌, ◌*◌, ◌/◌, ◌^◌, ◌≤◌, ◌<◌}
+use native.Mathlib.Nat.{div-eq_of_lt, one-mul, zero-mul, eq-or-lt_of_le, le_of_suc-le-suc, div-lt_iff_lt-mul}
 use native.Mathlib.Omega.{arith}
 use borrow.Author.Tests.{eq-eqb, eqb-true, ltb-true, ltb-false}
-use lib.Bits.{bit_and, and_shr, and_mod, and_lt}
-use lib.Count.{count_trailing_zeros, under}
+use lib.Bits.{bit_and, and_lt}
 use lib.Dec.{eqb, ltb}
-use lib.Pow.{pow_pos}
+use lib.Pow.{pow_pos, pow_mono}
+use Rattle.std.specs.Int.{bit_not, trailing_zeros}
+use mir.Syntax.{w64}
+use Rattle.std.proofs.lemmas.Nat.Bits.{bit_at_and, bit_at_not, ones_shr, bit_at_ones, bit_at_ones_above, bit_at-trailing_zeros}
 use Rattle.bits.specs.Bits.{bit}
 use Rattle.bits.specs.Marks.{marked}
-use Rattle.bits.specs.Sets.{set_of, FirstIs, First}
+use Rattle.bits.specs.Sets.{set_of, First}
 use Rattle.bits.proofs.Digits.{digit, low_lt}
-use Rattle.bits.proofs.Bits.{bit_half, bit_zero, bit_below, bit_top, bits_below, same_bits}
-use Rattle.bits.proofs.Marks.{bit_shr, none_marked, marked_none}
+use Rattle.bits.proofs.Bits.{bit_zero, bit_below, bit_top, bits_below, same_bits}
+use Rattle.bits.proofs.Marks.{none_marked, marked_none}
 
 -- equal digits are marked alike
 alike : {d e : ℕ} → d ≡ e → eqb d 1 ≡ eqb e 1
@@ -94,91 +96,35 @@ none_lt set n off =
     let none : set / 2 ^ n ≡ 0 = eqb-true (set / 2 ^ n) 0 (marked_none set n off) in
     rw (one-mul (2 ^ n)) at ((div-lt_iff_lt-mul {x = set} {y = 1} (pow_pos n)).0 (omega (arith, none)))
 
--- ---- as the code computes them
+-- ---- as the code computes them, in a word of 64 marks
 
--- the complement of n in k digits has the other digits
-complement : (k n i : ℕ) → n < 2 ^ k → i < k → bit (2 ^ k - suc n) i + bit n i ≡ 1
-complement zero n i h l = absurd (omega arith)
-complement (suc k) n zero h l = omega (arith, pow-suc 2 k)
-complement (suc k) n (suc i) h l =
-    rw (bit_half (2 ^ suc k - suc n) i (half k n h), bit_half n i refl) (complement k (n / 2) i (omega (arith, pow-suc 2 k)) (omega arith))
+and_other : (d o : ℕ) → d < 2 → o < 2 → eqb (min d (1 - o)) 1 ≡ (eqb d 1 && not (eqb o 1))
+and_other d o hd ho =
+    digit (λ (d : ℕ). eqb (min d (1 - o)) 1 ≡ (eqb d 1 && not (eqb o 1)))
+    (digit (λ (o : ℕ). eqb (min 0 (1 - o)) 1 ≡ (eqb 0 1 && not (eqb o 1))) refl refl o ho)
+    (digit (λ (o : ℕ). eqb (min 1 (1 - o)) 1 ≡ (eqb 1 1 && not (eqb o 1))) refl refl o ho) d hd
+
+pub without_set : (set other : ℕ) → set < 2 ^ 64 → other < 2 ^ 64 → bit_and set (bit_not w64 other) ≡ set_of (λ i. marked set i && not (marked other i)) 64
+without_set set other hs ho =
+    only_set _ 64 _ (and_lt 64 set (bit_not w64 other) hs (omega arith))
+    (λ i l. alike (bit_at_and set (bit_not w64 other) i ∙ ap (min (bit set i)) (bit_at_not w64 other i ho l))
+    ∙ and_other (bit set i) (bit other i) (low_lt (set / 2 ^ i)) (low_lt (other / 2 ^ i)))
+
+pub below_set : (n : ℕ) → n ≤ 64 → (2 ^ 64 - 1) / 2 ^ (64 - n) ≡ set_of (λ i. ltb i n) 64
+below_set n h =
+    let back : 64 - (64 - n) ≡ n = omega arith in
+    rw (ones_shr 64 (64 - n) (omega arith), back)
+    (only_set (λ i. ltb i n) 64 (2 ^ n - 1) (omega (arith, pow_mono h, pow_pos n)) (λ i l. go i (ltb i n) refl))
   where
-    half : (k n : ℕ) → n < 2 ^ suc k → (2 ^ suc k - suc n) / 2 ≡ 2 ^ k - suc (n / 2)
-    half k n h = omega (arith, pow-suc 2 k)
-
-bit_of_and : (a b i : ℕ) → bit (bit_and a b) i ≡ bit_and (bit a i) (bit b i)
-bit_of_and a b i = ap (λ (n : ℕ). n % 2) (and_shr a b i) ∙ and_mod (a / 2 ^ i) (b / 2 ^ i) 1
-
-and_other : (d o e : ℕ) → d < 2 → o < 2 → e + o ≡ 1 → eqb (bit_and d e) 1 ≡ (eqb d 1 && not (eqb o 1))
-and_other d o e hd ho h =
-    let it : e ≡ 1 - o = omega arith in
-    ap (λ (x : ℕ). eqb (bit_and d x) 1) it
-    ∙ digit (λ (d : ℕ). eqb (bit_and d (1 - o)) 1 ≡ (eqb d 1 && not (eqb o 1)))
-    (digit (λ (o : ℕ). eqb (bit_and 0 (1 - o)) 1 ≡ (eqb 0 1 && not (eqb o 1))) refl refl o ho)
-    (digit (λ (o : ℕ). eqb (bit_and 1 (1 - o)) 1 ≡ (eqb 1 1 && not (eqb o 1))) refl refl o ho) d hd
-
-pub without_set : (w set other : ℕ) → set < 2 ^ w → other < 2 ^ w
-    → bit_and set (2 ^ w - 1 - other) ≡ set_of (λ i. marked set i && not (marked other i)) w
-without_set w set other hs ho =
-    let others : 2 ^ w - 1 - other ≡ 2 ^ w - suc other = omega arith in
-    rw others
-    (only_set _ w _ (and_lt w set (2 ^ w - suc other) hs (omega arith))
-    (λ i l. alike (bit_of_and set (2 ^ w - suc other) i)
-    ∙ and_other (bit set i) (bit other i) (bit (2 ^ w - suc other) i) (low_lt (set / 2 ^ i)) (low_lt (other / 2 ^ i)) (complement w other i ho l)))
-
-pub below_set : (w n : ℕ) → n ≤ w → (2 ^ w - 1) / 2 ^ (w - n) ≡ set_of (λ i. ltb i n) w
-below_set w n h =
-    only_set (λ i. ltb i n) w ((2 ^ w - 1) / 2 ^ (w - n)) (omega (arith, div-le_self (2 ^ w - 1) (2 ^ (w - n)), pow_pos w))
-    (λ i l. alike (bit_shr (2 ^ w - 1) (w - n) i) ∙ go i (ltb i n) refl)
-  where
-    go : (i : ℕ) (t : Bool) → ltb i n ≡ t → marked (2 ^ w - 1) (w - n + i) ≡ t
-    go i true e =
-        let l = ltb-true i n e in
-        let it : bit (2 ^ w - 1) (w - n + i) ≡ 1 = omega (arith, complement w 0 (w - n + i) (pow_pos w) (omega arith), bit_zero (w - n + i)) in
-        alike it
-    go i false e =
-        let l = ltb-false i n e in
-        let small : 2 ^ w - 1 < 2 ^ w = omega (arith, pow_pos w) in
-        lt_none (2 ^ w - 1) w small (w - n + i) (omega arith)
-
--- the first mark below k is at r; r is k where there is none
-record UpTo (test : ℕ → Bool) (k r : ℕ) : Type 0 where
-  most : r ≤ k
-  before : (i : ℕ) → i < r → test i ≡ false
-  itself : r < k → test r ≡ true
-
-first_set : (k n : ℕ) → UpTo (marked n) k (count_trailing_zeros k n)
-unfolding count_trailing_zeros
-first_set zero n = record { most = omega arith; before = λ i l. absurd (omega arith); itself = λ l. absurd (omega arith) }
-first_set (suc k) n = by (n % 2) refl (count_trailing_zeros k (n / 2)) (first_set k (n / 2))
-  where
-    half : (i : ℕ) → marked n (suc i) ≡ marked (n / 2) i
-    half i = alike (bit_half n i refl)
-
-    low : (d : ℕ) → n % 2 ≡ d → marked n 0 ≡ eqb d 1
-    low d e = let it : bit n 0 ≡ d = omega arith in alike it
-
-    by : (d : ℕ) → n % 2 ≡ d → (t : ℕ) → UpTo (marked (n / 2)) k t → UpTo (marked n) (suc k) (under d t)
-    by zero e t f = record { most = omega (arith, f.most); before = below; itself = λ l. half t ∙ f.itself (omega arith) }
-      where
-        below : (i : ℕ) → i < suc t → marked n i ≡ false
-        below zero l = low 0 e
-        below (suc i) l = half i ∙ f.before i (omega arith)
-    by (suc zero) e t f = record { most = omega arith; before = λ i l. absurd (omega arith); itself = λ l. low 1 e }
-    by (suc (suc d)) e t f = absurd (omega (arith, low_lt n))
+    go : (i : ℕ) (t : Bool) → ltb i n ≡ t → marked (2 ^ n - 1) i ≡ t
+    go i true e = alike (bit_at_ones n i (ltb-true i n e))
+    go i false e = alike (bit_at_ones_above n i (ltb-false i n e))
 
 -- what is not 0 has a mark
-pub first_some : (k n : ℕ) → n < 2 ^ k → n ≢ 0 → First (marked n) k (Some (count_trailing_zeros k n))
-first_some k n h ne =
-    let f = first_set k n in
-    let unmarked : (i : ℕ) → marked 0 i ≡ false = λ i. alike (bit_zero i) in
-    let below : count_trailing_zeros k n < k =
-    ⊎_elim
-    (λ (all : count_trailing_zeros k n ≡ k). absurd (ne (only_set (λ _. false) k n h (λ i l. f.before i (omega arith))
-    ∙ sym (only_set (λ _. false) k 0 (pow_pos k) (λ i l. unmarked i)))))
-    (λ (less : count_trailing_zeros k n < k). less)
-    (eq-or-lt_of_le f.most) in
-    record { below = below; before = f.before; itself = f.itself below }
+pub first_some : (n : ℕ) → n < 2 ^ 64 → n ≢ 0 → First (marked n) 64 (Some (trailing_zeros w64 n))
+first_some n h ne =
+    let t = bit_at-trailing_zeros w64 n (omega arith) h in
+    record { below = t.0; before = λ i l. alike (t.2 i l); itself = alike t.1 }
 
-pub first_none : (k : ℕ) → First (marked 0) k None
-first_none k = λ i l. alike (bit_zero i)
+pub first_none : First (marked 0) 64 None
+first_none = λ i l. alike (bit_zero i)

@@ -1,4 +1,5 @@
-// Sets of numbers below 64, as marks in one word.
+// Sets of numbers below 64, as marks in one word. It has no type of its own, since a caller hands in a set of rows as one word of 64 marks, and
+// the state's field is that word.
 #![tactic(auto)]
 
 ghost use Rattle.std.specs.Prelude.{◌≡◌, ◌&&◌, not, ◌≤◌, ◌<◌, ltb};
@@ -50,10 +51,12 @@ pub fn none_from(set: u64, n: usize) -> bool
 pub fn count(set: u64) -> usize
     ensures { result ≡ how_many (marked set) 64 }
 {
+    // `as`, here and below, since usize has no From<u32>.
     set.count_ones() as usize
 }
 
 // The set of the numbers below `n`.
+#[tactic(auto, using(crate::proofs::Sets::below_set))]
 pub fn below(n: usize) -> u64
     requires { (1 ≤ n) × (n ≤ 64) }
     ensures { result ≡ set_of (λ i. ltb i n) 64 }
@@ -63,6 +66,7 @@ pub fn below(n: usize) -> u64
 }
 
 // The set without what another has.
+#[tactic(auto, using(crate::proofs::Sets::without_set))]
 pub fn without(set: u64, other: u64) -> u64
     ensures { result ≡ set_of (λ i. marked set i && not (marked other i)) 64 }
 {
@@ -70,6 +74,7 @@ pub fn without(set: u64, other: u64) -> u64
 }
 
 // The first that is marked.
+#[tactic(auto, using(crate::proofs::Sets::first_some, crate::proofs::Sets::first_none))]
 pub fn first(set: u64) -> Option<usize>
     ensures { First (marked set) 64 result }
 {

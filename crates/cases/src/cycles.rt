@@ -1,12 +1,13 @@
 // Read cycles of a memory of eight groups, four rows and packets of three bytes, at each K: the largest mixed cycle, the same with one read more,
 // equal reads, each symbol once in every group but one, and the mixed cycle again after a row is released. tools/cases.py knows the packets and the
 // lists by the formulas below, and judges what is printed.
-ghost use Rattle.std.specs.Prelude.{◌+◌, ◌*◌, ◌≤◌, ◌<◌, length};
-ghost use Rattle.simplex.specs.Shape.{most_symbols, most_pairs, banks_of};
-ghost use Rattle.layout.specs.Shape.{most_groups, most_rows};
+ghost use Rattle.std.specs.Prelude.{◌≡◌, ◌+◌, ◌*◌, ◌≤◌, ◌<◌, length};
+ghost use Rattle.simplex.specs.Shape.{SymbolsInRange, most_symbols, most_pairs};
+ghost use Rattle.layout.specs.Shape.{most_groups, most_rows, store_size};
 
+use crate::memories::filled;
 use crate::show::{UNTOUCHED, print_answer, show_read};
-use layout::MOST_GROUPS;
+use layout::{Geometry, MOST_GROUPS, Shape};
 use memory::State;
 use simplex::{MOST_PAIRS, MOST_SYMBOLS};
 use std::{array, io};
@@ -22,14 +23,13 @@ const GENERATION: usize = MOST_GROUPS * MOST_SYMBOLS * BYTES;
 
 const READS: usize = MOST_GROUPS * MOST_PAIRS + 1;
 
-// A memory of this K and limit.
-#[derive(Clone, Copy)]
+// A memory with this geometry and limit.
+#[derive(Clone, Copy, Debug, PartialEq, Eq)]
 struct Memory<'a> {
-    k: usize,
+    geometry: Geometry,
     limit: usize,
     state: State,
     store: &'a [u8],
-    ghost symbols: { (1 ≤ k) × (k ≤ most_symbols) },
     ghost reads: { limit ≤ most_pairs },
 }
 
@@ -37,38 +37,74 @@ struct Memory<'a> {
 fn generation(row: usize) -> [u8; GENERATION]
     requires { row < most_rows }
 {
+    // `as`, since u8 has no From<usize>: what is below 251 fits.
     array::from_fn(|n| ((row + 1) * (n * n * 3 + n * 7 + 5) % 251) as u8)
 }
 
-// A mixed list of reads (row, group, symbol): the groups take turns, and each goes through rows and symbols at a pace of its own.
-fn mixed(k: usize) -> [[u8; 3]; READS]
-    requires { (1 ≤ k) × (k ≤ most_symbols) }
-{
+// A place in a list where the groups take turns, and each goes from row to row.
+#[derive(Clone, Copy, Debug, PartialEq, Eq)]
+struct Place {
+    group: usize,
+    turn: usize,
+    ghost groups: { group < most_groups },
+    ghost turns: { turn ≤ most_pairs },
+}
+
+impl Place {
+    fn of(n: usize) -> Place
+        requires { n ≤ most_groups * most_pairs }
+    {
+        Place {
+            group: n % MOST_GROUPS,
+            turn: n / MOST_GROUPS,
+        }
+    }
+
+    // A read of this symbol there (row, group, symbol).
+    fn read(self, symbol: usize) -> [u8; 3]
+        requires { symbol < most_symbols }
+    {
+        // `as`, since u8 has no From<usize>.
+        [
+            ((self.group + self.turn) % ROWS) as u8,
+            self.group as u8,
+            symbol as u8,
+        ]
+    }
+}
+
+// A list where each group reads each symbol once, but group 5 reads symbol 0 again and again.
+fn one_colliding() -> [[u8; 3]; READS] {
     array::from_fn(
         |n|
-            requires { (n ≤ most_groups * most_pairs) × (1 ≤ k) × (k ≤ most_symbols) }
+            requires { n ≤ most_groups * most_pairs }
         {
-            let group = n % MOST_GROUPS;
-            let turn = n / MOST_GROUPS;
-            let row = (group + turn) % ROWS;
-            let symbol = (group * 3 + turn * (group + 1)) % k;
-            [row as u8, group as u8, symbol as u8]
+            let place = Place::of(n);
+            place.read(if place.group == 5 {
+                0
+            } else {
+                place.turn % MOST_SYMBOLS
+            })
         },
     )
 }
 
-// A list where each group goes from row to row and reads each symbol once, but group 5 reads symbol 0 again and again.
-fn one_colliding() -> [[u8; 3]; READS] {
-    array::from_fn(|n| {
-        let group = n % MOST_GROUPS;
-        let turn = n / MOST_GROUPS;
-        let row = (group + turn) % ROWS;
-        let symbol = if group == 5 { 0 } else { turn % MOST_SYMBOLS };
-        [row as u8, group as u8, symbol as u8]
-    })
-}
-
 impl Memory<'_> {
+    // A mixed list: each group goes through the symbols at a pace of its own. After as many reads as a cycle takes, one more of group 5.
+    fn mixed(self) -> [[u8; 3]; READS] {
+        let k = self.geometry.shape.k;
+        let mut reads = array::from_fn(
+            |n|
+                requires { (n ≤ most_groups * most_pairs) × SymbolsInRange k }
+            {
+                let place = Place::of(n);
+                place.read((place.group * 3 + place.turn * (place.group + 1)) % k)
+            },
+        );
+        reads[MOST_GROUPS * self.limit] = [1, 5, 0];
+        reads
+    }
+
     // A cycle with buffers of the right lengths.
     fn show_cycle(self, rt: &impl Print, reads: &[[u8; 3]]) -> io::Result<()>
         requires { length reads.now ≤ most_groups * most_pairs + 1 }
@@ -85,16 +121,6 @@ impl Memory<'_> {
         )
     }
 
-    // The largest mixed cycle, or with one read more, of group 5.
-    fn show_mixed(self, rt: &impl Print, more: usize) -> io::Result<()>
-        requires { more ≤ 1 }
-    {
-        let many = MOST_GROUPS * self.limit;
-        let mut reads = mixed(self.k);
-        reads[many] = [1, 5, 0];
-        self.show_cycle(rt, &reads[..many + more])
-    }
-
     // As many equal reads as the limit.
     fn show_equal(self, rt: &impl Print) -> io::Result<()> {
         self.show_cycle(rt, &[[2, 3, 1]; MOST_PAIRS][..self.limit])
@@ -102,47 +128,59 @@ impl Memory<'_> {
 
     // As many reads of each group as it has symbols.
     fn show_one_colliding(self, rt: &impl Print) -> io::Result<()> {
-        self.show_cycle(rt, &one_colliding()[..MOST_GROUPS * self.k])
+        self.show_cycle(rt, &one_colliding()[..MOST_GROUPS * self.geometry.shape.k])
     }
 
     // The cycles while every row is full, and one after a row is released.
     fn show(self, rt: &impl Print) -> io::Result<()> {
-        self.show_mixed(rt, 0)?;
-        self.show_mixed(rt, 1)?;
+        let most = MOST_GROUPS * self.limit;
+        let mixed = self.mixed();
+        self.show_cycle(rt, &mixed[..most])?;
+        self.show_cycle(rt, &mixed[..=most])?;
         self.show_equal(rt)?;
         self.show_one_colliding(rt)?;
         let released = self.state.release(2);
         print_answer(rt, released)?;
+        // No `..self`, which a struct with a ghost field does not take.
         let mut left = self;
         left.state = released.state;
-        left.show_mixed(rt, 0)
+        left.show_cycle(rt, &mixed[..most])
     }
 }
 
-// Sets up a memory over a store, and writes every row.
-fn filled(store: &mut [u8], k: usize) -> State
-    requires { k ≤ most_symbols }
+// A memory's geometry at this K: there is room for its store.
+fn geometry_of(k: usize) -> Geometry
+    requires { SymbolsInRange k }
+    ensures { store_size result.shape ≤ STORE }
 {
-    let mut state = State::set_up(k, MOST_GROUPS, BYTES, ROWS).state;
-    for row in 0..ROWS {
-        let bytes = generation(row);
-        state = state
-            .write(store, row, &bytes[..MOST_GROUPS * k * BYTES])
-            .state;
-    }
-    state
+    let shape = Shape {
+        k,
+        m: MOST_GROUPS,
+        p: BYTES,
+        g: ROWS,
+    };
+    Geometry { shape }
 }
 
-// The cycles of one K, with this limit and this many banks in a group.
-pub fn run(rt: &impl Print, k: usize, limit: usize, banks: usize) -> io::Result<()>
-    requires { (1 ≤ k) × (k ≤ most_symbols) × (limit ≤ most_pairs) × (banks ≤ banks_of most_symbols) }
+// The cycles of one K.
+#[tactic(auto, using(simplex::proofs::Tables::limit_most))]
+pub fn run(rt: &impl Print, k: usize) -> io::Result<()>
+    requires { SymbolsInRange k }
 {
     println!(rt; "K {k}")?;
+    let geometry = geometry_of(k);
     let mut space = [0; STORE];
-    let store = &mut space[..MOST_GROUPS * banks * ROWS * BYTES];
-    let state = filled(store, k);
+    let store = &mut space[..geometry.store_size()];
+    let generations = array::from_fn::<_, ROWS, _>(generation);
+    let rows = array::from_fn::<_, ROWS, _>(
+        |row|
+            requires { (row < ROWS) × SymbolsInRange k }
+        { (row, &generations[row][..MOST_GROUPS * k * BYTES]) },
+    );
+    let state = filled(store, geometry.shape, &rows);
+    let limit = simplex::group_of(geometry.shape.k).limit;
     let memory = Memory {
-        k,
+        geometry,
         limit,
         state,
         store,

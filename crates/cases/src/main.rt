@@ -9,9 +9,10 @@
 #![tactic(auto)]
 
 ghost use Rattle.std.specs.Prelude.{◌≤◌, ◌<◌};
-ghost use Rattle.simplex.specs.Shape.{most_symbols, most_pairs};
+ghost use Rattle.simplex.specs.Shape.{SymbolsInRange};
 
 mod cycles;
+mod memories;
 mod refused;
 mod sets;
 mod show;
@@ -19,37 +20,42 @@ mod updates;
 
 use plan::Plan;
 use refusals::{Reason, Refusal};
-use simplex::{MOST_PAIRS, MOST_SYMBOLS};
-use std::io::Read;
+use simplex::{LEAST_SYMBOLS, MOST_PAIRS, MOST_SYMBOLS};
 use std::num::Saturating;
-use std::{array, fmt, io};
+use std::{array, fmt, io, mem};
 
 // The bytes of standard input that are read.
 const MOST_REQUESTS: usize = 4096;
 
-// What is asked of one group: its K, and how often each symbol is read.
-#[derive(Clone, Copy)]
+// What is asked of one group: its K, and how often each symbol is read. It is input that nothing has judged, so it may be one that plan's own Request,
+// which is within the limit, cannot be.
+#[derive(Clone, Copy, Debug, PartialEq, Eq)]
 struct Request {
     k: usize,
     counts: [usize; MOST_SYMBOLS],
 }
 
 // A plan's pairs, as they are printed.
-#[derive(Clone, Copy)]
+#[derive(Clone, Copy, Debug, PartialEq, Eq)]
 struct Pairs(Plan);
 
 // What a run over many requests counts: those within the limit, the plans that the audit says yes to and their pairs, the plans that open one bank a
 // read for requests that read no symbol twice, the requests of one read more, the refusals by number 12, and the plans, each with the banks of its
 // first pair exchanged, that the audit says no to. No run comes near the largest number.
-#[derive(Clone, Copy, Default)]
+#[derive(Clone, Copy, Debug, Default, PartialEq, Eq)]
 struct Tally {
-    within: Saturating<u64>,
-    passed: Saturating<u64>,
-    pairs: Saturating<u64>,
-    systematic: Saturating<u64>,
-    above: Saturating<u64>,
-    refused: Saturating<u64>,
-    denied: Saturating<u64>,
+    within: Saturating<usize>,
+    passed: Saturating<usize>,
+    pairs: Saturating<usize>,
+    systematic: Saturating<usize>,
+    above: Saturating<usize>,
+    refused: Saturating<usize>,
+    denied: Saturating<usize>,
+}
+
+// The pairs of a plan, used or not.
+fn pairs_of(plan: Plan) -> [[u8; 2]; MOST_PAIRS] {
+    array::from_fn(|n| [plan.first[n], plan.second[n]])
 }
 
 impl fmt::Display for Request {
@@ -64,8 +70,7 @@ impl fmt::Display for Request {
 
 impl fmt::Display for Pairs {
     fn fmt<W: fmt::Write>(&self, f: &mut fmt::Formatter<W>) -> fmt::Result {
-        let plan = &self.0;
-        for (a, b) in plan.first.iter().zip(&plan.second).take(plan.len) {
+        for [a, b] in pairs_of(self.0).iter().take(self.0.len) {
             write!(f, " ({a},{b})")?;
         }
         Ok(())
@@ -95,7 +100,7 @@ impl Request {
 
     // Audits the first pairs of a plan, as many as it says.
     fn audit(self, plan: Plan) -> Result<bool, Refusal> {
-        let pairs: [[u8; 2]; MOST_PAIRS] = array::from_fn(|n| [plan.first[n], plan.second[n]]);
+        let pairs = pairs_of(plan);
         let Some(used) = pairs.get(..plan.len) else {
             return Ok(false);
         };
@@ -109,10 +114,13 @@ impl Request {
 
     // Whether the audit says no to a plan when the banks of its first pair are exchanged.
     fn is_denied(self, plan: Plan) -> bool {
-        let mut exchanged = plan;
-        exchanged.first[0] = plan.second[0];
-        exchanged.second[0] = plan.first[0];
-        self.audit(exchanged) == Ok(false)
+        let Plan {
+            mut first,
+            mut second,
+            len,
+        } = plan;
+        mem::swap(&mut first[0], &mut second[0]);
+        self.audit(Plan { first, second, len }) == Ok(false)
     }
 }
 
@@ -134,13 +142,8 @@ fn show_plan(rt: &impl Print, request: Request) -> io::Result<()> {
 }
 
 impl Tally {
-    // Plans one request, which leaves `left` of one read more than the limit, and counts the answer.
-    fn count(&mut self, request: Request, left: usize) {
-        if left == 0 {
-            self.above += 1;
-        } else {
-            self.within += 1;
-        }
+    // Plans one request, and counts the answer.
+    fn count(&mut self, request: Request) {
         match request.plan() {
             Ok(plan) => self.count_plan(request, plan),
             Err(refusal) if refusal.reason == Reason::TooManyReads => self.refused += 1,
@@ -151,7 +154,7 @@ impl Tally {
     fn count_plan(&mut self, request: Request, plan: Plan) {
         if request.is_passed(plan) {
             self.passed += 1;
-            self.pairs += plan.len as u64;
+            self.pairs += plan.len;
         }
         if plan::is_collision_free(request.counts) && is_systematic(plan) {
             self.systematic += 1;
@@ -162,29 +165,39 @@ impl Tally {
     }
 }
 
-// The counts of request x of those whose k counts are below `base`: the digits of x.
-fn counts_of(x: usize, k: usize, base: usize) -> [usize; MOST_SYMBOLS]
+// The counts of request x of those whose counts are each below `base`: the digits of x.
+fn counts_of(x: usize, base: usize) -> [usize; MOST_SYMBOLS]
     requires { 1 ≤ base }
 {
-    let mut counts = [0; MOST_SYMBOLS];
     let mut rest = x;
-    for count in counts.iter_mut().take(k) {
-        *count = rest % base;
+    array::from_fn(|_| {
+        let count = rest % base;
         rest /= base;
-    }
-    counts
+        count
+    })
 }
 
-// Every request of k symbols that totals at most limit + 1. They are among the `many`, (limit + 2)^k, whose counts are each at most limit + 1.
-fn run(rt: &impl Print, k: usize, limit: usize, many: usize) -> io::Result<()>
-    requires { limit ≤ most_pairs }
+// Every request of k symbols that totals at most one read more than the limit. They are among those whose counts are each at most that.
+fn run(rt: &impl Print, k: usize) -> io::Result<()>
+    requires { SymbolsInRange k }
 {
+    let most = simplex::group_of(k).limit + 1;
+    let base = most + 1;
+    // `as`, since u32 has no From<usize>.
+    let many = base.saturating_pow(k as u32);
     let mut tally = Tally::default();
-    for x in 0..many {
-        let counts = counts_of(x, k, limit + 2);
-        if let Some(left) = audit::take_from(limit + 1, counts) {
-            tally.count(Request { k, counts }, left);
+    for counts in (0..many).map(
+        |x|
+            requires { 1 ≤ base }
+        { counts_of(x, base) },
+    ) {
+        match audit::take_from(most, counts) {
+            // It is one read more.
+            Some(0) => tally.above += 1,
+            Some(_) => tally.within += 1,
+            None => continue,
         }
+        tally.count(Request { k, counts });
     }
     println!(rt; "K {k}: {tally}")
 }
@@ -201,26 +214,22 @@ fn with_digit(number: usize, digit: usize) -> usize
     }
 }
 
-// The number that the digits of a text make.
+// The number that the digits of a text make. No `parse`: characters between the digits are passed over, and a number that is too large is no error.
 fn number_of(text: &[u8]) -> usize {
-    let mut number = 0;
-    for b in text {
-        if let Some(digit) = char::from(*b).to_digit(10) {
-            number = with_digit(number, digit as usize);
-        }
-    }
-    number
+    // `as`, since usize has no From<u32>.
+    text.iter()
+        .filter_map(|b| char::from(*b).to_digit(10))
+        .fold(0, |number, digit| with_digit(number, digit as usize))
 }
 
 // The request of a line. Those of its numbers that are missing are 0, and the spaces after the last are passed over.
-fn request_of(line: &[u8]) -> Request {
-    let mut texts = line.splitn(MOST_SYMBOLS + 1, |b| *b == b' ');
-    let k = texts.next().map_or(0, number_of);
-    let mut counts = [0; MOST_SYMBOLS];
-    for count in &mut counts {
-        *count = texts.next().map_or(0, number_of);
+impl From<&[u8]> for Request {
+    fn from(line: &[u8]) -> Request {
+        let mut texts = line.splitn(MOST_SYMBOLS + 1, |b| *b == b' ');
+        let k = texts.next().map_or(0, number_of);
+        let counts = array::from_fn(|_| texts.next().map_or(0, number_of));
+        Request { k, counts }
     }
-    Request { k, counts }
 }
 
 // Shows the request of each line.
@@ -229,25 +238,21 @@ fn show_lines(rt: &impl Print, requests: &[u8]) -> io::Result<()> {
     // No line feed ends what comes last.
     lines.next_back();
     for line in lines {
-        show_plan(rt, request_of(line))?;
+        show_plan(rt, Request::from(line))?;
     }
     Ok(())
 }
 
 fn main(rt: HostRuntime) -> io::Result<()> {
-    let mut space = [0; MOST_REQUESTS];
-    let mut input = rt.reader().take(MOST_REQUESTS as u64);
-    let len = io::copy(&mut input, &mut &mut space[..])? as usize;
-    // `copy` bounds its count only for a reader whose bytes are known.
-    show_lines(&rt, &space[..len.min(MOST_REQUESTS)])?;
-    run(&rt, 2, 2, 16)?;
-    run(&rt, 3, 4, 216)?;
-    run(&rt, 4, 8, 10_000)?;
-    run(&rt, 5, 16, 1_889_568)?;
-    cycles::run(&rt, 2, 2, 3)?;
-    cycles::run(&rt, 3, 4, 7)?;
-    cycles::run(&rt, 4, 8, 15)?;
-    cycles::run(&rt, 5, 16, 31)?;
+    let mut text = [0; MOST_REQUESTS];
+    let len = lines::input::read_text(rt.reader(), &mut text)?;
+    show_lines(&rt, &text[..len])?;
+    for k in LEAST_SYMBOLS..=MOST_SYMBOLS {
+        run(&rt, k)?;
+    }
+    for k in LEAST_SYMBOLS..=MOST_SYMBOLS {
+        cycles::run(&rt, k)?;
+    }
     refused::run(&rt)?;
     sets::run(&rt)?;
     updates::run(&rt)

@@ -1,7 +1,6 @@
 // A small memory: its whole store, and the refusals that no session meets (5, 6 and 16), each where later numbers apply too. It has K = 2, two groups,
 // packets of one byte and two rows. Last, the refusals of an audit. tools/cases.py has the answers by the words of the rules.
-ghost use Rattle.std.specs.Prelude.{◌≤◌};
-
+use crate::memories::Memory;
 use crate::show::{UNTOUCHED, print_answer, print_store, show_read};
 use memory::State;
 use simplex::MOST_SYMBOLS;
@@ -9,86 +8,79 @@ use std::io;
 
 const STORE: usize = 12;
 
-// A write of a generation that is too short, with the first `size` bytes of the store.
-fn show_write(
-    rt: &impl Print,
-    state: State,
-    store: &mut [u8; STORE],
-    size: usize,
-    row: usize,
-) -> io::Result<()>
-    requires { size ≤ 12 }
-{
-    let short = [0; 3];
-    print_answer(rt, state.write(&mut store[..size], row, &short))?;
-    print_store(rt, store)
+// A generation that is too short.
+const SHORT_GENERATION: [u8; 3] = [0; 3];
+
+// Both rows full, the writes of which are shown.
+fn filled(rt: &impl Print) -> io::Result<Memory<STORE>> {
+    let mut store = [0; STORE];
+    let new = State::set_up(2, 2, 1, 2);
+    let first = new.state.write(&mut store, 0, &[0x01, 0x02, 0x04, 0x08]);
+    print_answer(rt, first)?;
+    let second = first.state.write(&mut store, 1, &[0x10, 0x20, 0x40, 0x80]);
+    print_answer(rt, second)?;
+    print_store(rt, &store)?;
+    let state = second.state;
+    Ok(Memory { state, store })
 }
 
-// To row 2, which is not there: 5, 6, 7. To a full row: 8. To an empty one: 10.
-fn show_writes(
-    rt: &impl Print,
-    state: State,
-    broken: State,
-    store: &mut [u8; STORE],
-) -> io::Result<()> {
-    show_write(rt, broken, store, 11, 2)?;
-    show_write(rt, state, store, 11, 2)?;
-    show_write(rt, state, store, 12, 2)?;
-    show_write(rt, state, store, 12, 1)?;
-    let released = state.release(1);
-    print_answer(rt, released)?;
-    show_write(rt, released.state, store, 12, 1)
-}
+// No operation that is shown on a memory changes its store.
+impl Memory<STORE> {
+    // A write of a generation that is too short.
+    fn show_write(mut self, rt: &impl Print, row: usize) -> io::Result<()> {
+        let outcome = self.state.write(&mut self.store, row, &SHORT_GENERATION);
+        print_answer(rt, outcome)?;
+        print_store(rt, &self.store)
+    }
 
-// A release of a row that is not there: 5, 7. Of an empty row: 9.
-fn show_releases(rt: &impl Print, state: State, broken: State) -> io::Result<()> {
-    print_answer(rt, broken.release(2))?;
-    print_answer(rt, state.release(2))?;
-    let released = state.release(1);
-    print_answer(rt, released.state.release(1))
-}
+    // The same to row 2, in a store that is a byte short.
+    fn show_short_write(mut self, rt: &impl Print) -> io::Result<()> {
+        let outcome = self
+            .state
+            .write(&mut self.store[..STORE - 1], 2, &SHORT_GENERATION);
+        print_answer(rt, outcome)?;
+        print_store(rt, &self.store)
+    }
 
-// A cycle with room for `out` bytes of packets and `lines` of the schedule.
-fn show(
-    rt: &impl Print,
-    state: State,
-    store: &[u8],
-    reads: &[u8],
-    out: usize,
-    lines: usize,
-) -> io::Result<()>
-    requires { (out ≤ 9) × (lines ≤ 9) }
-{
-    let mut packets = [UNTOUCHED; 9];
-    let mut schedule = [UNTOUCHED; 9];
-    show_read(
-        rt,
-        state,
-        store,
-        reads,
-        &mut packets[..out],
-        &mut schedule[..lines],
-    )
-}
+    // To row 2, which is not there: 5, 6, 7. To a full row: 8. To an empty one: 10.
+    fn show_writes(self, rt: &impl Print) -> io::Result<()> {
+        self.broken().show_short_write(rt)?;
+        self.show_short_write(rt)?;
+        self.show_write(rt, 2)?;
+        self.show_write(rt, 1)?;
+        let released = self.state.release(1);
+        print_answer(rt, released)?;
+        let state = released.state;
+        Memory { state, ..self }.show_write(rt, 1)
+    }
 
-// A list of three reads of group 1, the last of a symbol that is not there, and buffers that are too long: 5, 6, 13, 15. With three reads that are
-// there: 12. With two: 16 for the output, 16 for the schedule, served.
-fn show_cycles(
-    rt: &impl Print,
-    state: State,
-    broken: State,
-    store: &[u8; STORE],
-) -> io::Result<()> {
-    let wrong = [0, 1, 0, 1, 1, 1, 0, 1, 2];
-    let right = [0, 1, 0, 1, 1, 1, 0, 1, 1];
-    show(rt, broken, &store[..11], &wrong[..8], 9, 9)?;
-    show(rt, state, &store[..11], &wrong[..8], 9, 9)?;
-    show(rt, state, store, &wrong[..8], 9, 9)?;
-    show(rt, state, store, &wrong, 9, 9)?;
-    show(rt, state, store, &right, 9, 9)?;
-    show(rt, state, store, &right[..6], 3, 4)?;
-    show(rt, state, store, &right[..6], 2, 5)?;
-    show(rt, state, store, &right[..6], 2, 4)
+    // A release of a row that is not there: 5, 7. Of an empty row: 9.
+    fn show_releases(self, rt: &impl Print) -> io::Result<()> {
+        print_answer(rt, self.broken().state.release(2))?;
+        print_answer(rt, self.state.release(2))?;
+        let released = self.state.release(1);
+        print_answer(rt, released.state.release(1))
+    }
+
+    // A list of three reads of group 1, the last of a symbol that is not there, and buffers that are too long: 5, 6, 13, 15. With three reads that are
+    // there: 12. With two: 16 for the output, 16 for the schedule, served. A refused cycle leaves the buffers as they are, so the next one gets them.
+    fn show_cycles(self, rt: &impl Print) -> io::Result<()> {
+        let wrong = [0, 1, 0, 1, 1, 1, 0, 1, 2];
+        let right = [0, 1, 0, 1, 1, 1, 0, 1, 1];
+        let broken = self.broken().state;
+        let Memory { state, store } = self;
+        let short = &store[..STORE - 1];
+        let (mut out, mut lines) = ([UNTOUCHED; 9], [UNTOUCHED; 9]);
+        show_read(rt, broken, short, &wrong[..8], &mut out, &mut lines)?;
+        show_read(rt, state, short, &wrong[..8], &mut out, &mut lines)?;
+        show_read(rt, state, &store, &wrong[..8], &mut out, &mut lines)?;
+        show_read(rt, state, &store, &wrong, &mut out, &mut lines)?;
+        show_read(rt, state, &store, &right, &mut out, &mut lines)?;
+        let two = &right[..6];
+        show_read(rt, state, &store, two, &mut out[..3], &mut lines[..4])?;
+        show_read(rt, state, &store, two, &mut out[..2], &mut lines[..5])?;
+        show_read(rt, state, &store, two, &mut out[..2], &mut lines[..4])
+    }
 }
 
 // An audit of one byte for these counts.
@@ -103,18 +95,10 @@ fn show_audit(rt: &impl Print, k: usize, counts: [usize; MOST_SYMBOLS]) -> io::R
 
 pub fn run(rt: &impl Print) -> io::Result<()> {
     println!(rt; "small memory")?;
-    let mut store = [0; STORE];
-    let new = State::set_up(2, 2, 1, 2);
-    let first = new.state.write(&mut store, 0, &[0x01, 0x02, 0x04, 0x08]);
-    print_answer(rt, first)?;
-    let second = first.state.write(&mut store, 1, &[0x10, 0x20, 0x40, 0x80]);
-    print_answer(rt, second)?;
-    print_store(rt, &store)?;
-    let state = second.state;
-    let broken = State { full: 7, ..state };
-    show_writes(rt, state, broken, &mut store)?;
-    show_releases(rt, state, broken)?;
-    show_cycles(rt, state, broken, &store)?;
+    let memory = filled(rt)?;
+    memory.show_writes(rt)?;
+    memory.show_releases(rt)?;
+    memory.show_cycles(rt)?;
     show_audit(rt, 6, [9, 0, 0, 0, 1])?;
     show_audit(rt, 4, [9, 0, 0, 0, 1])?;
     show_audit(rt, 4, [9, 0, 0, 0, 0])

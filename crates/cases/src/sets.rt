@@ -1,8 +1,17 @@
 // Releases of row sets: a memory with K = 2, one group, packets of one byte and six rows, of which 0, 1, 3 and 5 are full. tools/cases.py has the
 // answers by the words of the request.
+use crate::memories::filled;
 use crate::show::print_outcome;
+use layout::Shape;
 use memory::State;
 use std::io;
+
+const SHAPE: Shape = Shape {
+    k: 2,
+    m: 1,
+    p: 1,
+    g: 6,
+};
 
 const STORE: usize = 18;
 
@@ -17,11 +26,9 @@ fn show(rt: &impl Print, state: State, set: u64) -> io::Result<State> {
 // No row; then rows 0 and 3, and 1 and 5: accepted.
 pub fn run(rt: &impl Print) -> io::Result<()> {
     println!(rt; "row sets")?;
-    let mut store = [0; STORE];
-    let mut state = State::set_up(2, 1, 1, 6).state;
-    for row in [0, 1, 3, 5] {
-        state = state.write(&mut store, row, &[0x5a, 0x3c]).state;
-    }
+    let generation: &[u8] = &[0x5a, 0x3c];
+    let rows = [0, 1, 3, 5].map(|row| (row, generation));
+    let state = filled(&mut [0; STORE], SHAPE, &rows);
     let broken = State {
         full: 0x6b,
         ..state

@@ -3,18 +3,23 @@ use mathlib.Core.Path.{◌≡◌, refl, sym, ap, ◌∙◌}
 use mathlib.Core.Logic.{◌⊎◌, ⊎_elim}
 use mathlib.Core.List.{List, [], ◌∷◌}
 use Prim.Native.Nat.{ℕ, zero, suc, ◌+◌, ◌-◌, ◌≤◌, ◌<◌}
-use native.Mathlib.Nat.{not-suc-le-zero, le_of_suc-le-suc, suc-add, zero-add}
 use native.Mathlib.Omega.{arith}
+use Rattle.std.specs.Simd.Lanes.{put_chunk}
+use Rattle.std.proofs.lemmas.Simd.{length-put_chunk, get_or-put_chunk_below, get_or-put_chunk_above, get_or-put_chunk_at}
 use lib.ListN.{length, get_or, take, drop, length-drop}
 use lib.Seq.{get_or-take, get_or-drop, ext_get_or, length-take-le, take-take, drop-drop}
 use Rattle.cells.specs.Cell.{cell, put, Outside}
 
-pub length_put : (s : List ℕ) (at : ℕ) (c : List ℕ) → length (put s at c) ≡ length s
+-- what std says of a part that is put, of this one
+chunk : (s : List ℕ) (at : ℕ) (c : List ℕ) → put s at c ≡ put_chunk at s c
 unfolding put
-length_put [] at c = refl
-length_put (x ∷ s) (suc at) c = ap suc (length_put s at c)
-length_put (x ∷ s) zero [] = refl
-length_put (x ∷ s) zero (y ∷ c) = ap suc (length_put s zero c)
+chunk [] at c = refl
+chunk (x ∷ s) (suc at) c = ap (λ (r : List ℕ). x ∷ r) (chunk s at c)
+chunk (x ∷ s) zero [] = refl
+chunk (x ∷ s) zero (y ∷ c) = ap (λ (r : List ℕ). y ∷ r) (chunk s zero c)
+
+pub length_put : (s : List ℕ) (at : ℕ) (c : List ℕ) → length (put s at c) ≡ length s
+length_put s at c = ap length (chunk s at c) ∙ length-put_chunk at s c
 
 pub put_none : (s : List ℕ) (at : ℕ) → s ≡ put s at []
 unfolding put
@@ -23,34 +28,14 @@ put_none (x ∷ s) zero = refl
 put_none (x ∷ s) (suc at) = ap (λ (r : List ℕ). x ∷ r) (put_none s at)
 
 below : (s : List ℕ) (at : ℕ) (c : List ℕ) (j : ℕ) → j < at → get_or (put s at c) j 0 ≡ get_or s j 0
-unfolding put
-below s zero c j h = absurd (not-suc-le-zero h)
-below [] (suc at) c j h = refl
-below (x ∷ s) (suc at) c zero h = refl
-below (x ∷ s) (suc at) c (suc j) h = below s at c j (le_of_suc-le-suc h)
+below s at c j h = rw (chunk s at c) (get_or-put_chunk_below at s c j 0 h)
 
 past : (s : List ℕ) (at : ℕ) (c : List ℕ) (j : ℕ) → at + length c ≤ j → get_or (put s at c) j 0 ≡ get_or s j 0
-unfolding put
-past [] at c j h = refl
-past (x ∷ s) (suc at) c zero h = absurd (not-suc-le-zero (rw (suc-add at (length c)) at h))
-past (x ∷ s) (suc at) c (suc j) h = past s at c j (le_of_suc-le-suc (rw (suc-add at (length c)) at h))
-past (x ∷ s) zero [] j h = refl
-past (x ∷ s) zero (y ∷ c) zero h = absurd (not-suc-le-zero (rw (zero-add (suc (length c))) at h))
-past (x ∷ s) zero (y ∷ c) (suc j) h = past s zero c j (rw (zero-add (length c)) (le_of_suc-le-suc (rw (zero-add (suc (length c))) at h)))
+past s at c j h = rw (chunk s at c) (get_or-put_chunk_above at s c j 0 h)
 
 -- a byte outside the part that was put is as it was
 pub get_or_put_out : (s : List ℕ) (at : ℕ) (c : List ℕ) (j : ℕ) → Outside (length c) at j → get_or (put s at c) j 0 ≡ get_or s j 0
 get_or_put_out s at c j out = ⊎_elim (below s at c j) (past s at c j) out
-
-get_or_put_in : (s : List ℕ) (at : ℕ) (c : List ℕ) (j : ℕ) → j < length c → at + j < length s → get_or (put s at c) (at + j) 0 ≡ get_or c j 0
-unfolding put
-get_or_put_in [] at c j h l = absurd (not-suc-le-zero l)
-get_or_put_in (x ∷ s) (suc at) c j h l = rw (suc-add at j) (get_or_put_in s at c j h (le_of_suc-le-suc (rw (suc-add at j) at l)))
-get_or_put_in (x ∷ s) zero [] j h l = absurd (not-suc-le-zero h)
-get_or_put_in (x ∷ s) zero (y ∷ c) zero h l = refl
-get_or_put_in (x ∷ s) zero (y ∷ c) (suc j) h l =
-    let ih = get_or_put_in s zero c j (le_of_suc-le-suc h) (rw (zero-add j) (le_of_suc-le-suc (rw (zero-add (suc j)) at l))) in
-    rw (zero-add (suc j)) (rw (zero-add j) at ih)
 
 -- two parts that lie apart may be put in either order
 pub put_swap : (s : List ℕ) (f : ℕ) (d : List ℕ) (at : ℕ) (c : List ℕ) → f + length d ≤ at → put (put s at c) f d ≡ put (put s f d) at c
@@ -86,7 +71,7 @@ pub cell_put : (s : List ℕ) (at : ℕ) (c : List ℕ) (p : ℕ) → length c �
 cell_put s at c p e h =
     let l : length (cell (put s at c) at p) ≡ p = length_cell (put s at c) at p (rw length_put h) in
     ext_get_or 0 (cell (put s at c) at p) c (l ∙ sym e)
-    (λ j b. get_or_cell (put s at c) at p j (omega arith) ∙ get_or_put_in s at c j (omega arith) (omega arith))
+    (λ j b. get_or_cell (put s at c) at p j (omega arith) ∙ rw (chunk s at c) (get_or-put_chunk_at at s c j 0 (omega arith) (omega arith)))
 
 -- a cell apart from the one that was put is as it was
 pub cell_put_out : (s : List ℕ) (at : ℕ) (c : List ℕ) (f p : ℕ) → (f + p ≤ at) ⊎ (at + length c ≤ f) → f + p ≤ length s

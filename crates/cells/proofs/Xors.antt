@@ -3,10 +3,10 @@ use mathlib.Core.Path.{◌≡◌, refl, sym, ap, ap₂, ◌∙◌}
 use mathlib.Core.List.{List, [], ◌∷◌}
 use Prim.Native.Nat.{ℕ, zero, suc, ◌≤◌}
 use native.Mathlib.Nat.{le_of_eq, suc_inj, suc-ne-zero, le_of_suc-le-suc, not-suc-le-zero}
-use lib.Bits.{bit_xor, xor_comm, xor_zero_r}
+use lib.Bits.{bit_xor, xor_assoc, xor_comm, xor_zero_r}
 use lib.ListN.{length, get_or, replicate, length-replicate}
 use Rattle.cells.specs.Xor.{xor_bytes, zeros}
-use Rattle.bits.proofs.Digits.{xor_assoc, xor_cancel}
+use Rattle.bits.proofs.Digits.{xor_cancel}
 
 pub assoc : (p q r : List ℕ) → xor_bytes (xor_bytes p q) r ≡ xor_bytes p (xor_bytes q r)
 assoc [] q r = refl

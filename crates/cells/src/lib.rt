@@ -1,4 +1,5 @@
-// Functions on bytes: each sets one cell of a slice, or the whole slice.
+// Functions on bytes: each sets one cell of a slice, or the whole slice. A cell is named by the slice and its place in it, and not lent by itself: two of them read
+// another cell of the same slice, and the definition that all are said by, `put`, is of the whole slice.
 #![tactic(auto)]
 
 ghost use Rattle.std.specs.Prelude.{◌≡◌, ◌⊎◌, ◌+◌, ◌≤◌, ◌<◌, ℕ, List, length};
@@ -18,6 +19,7 @@ fn set_cell<F: Fn(&[u8], usize) -> u8>(s: &mut [u8], at: usize, p: usize, byte: 
     requires callable { (t : _) (i : ℕ) → length t.now ≡ length s.old → i < p → F.pre byte t i }
     ensures { (c : List ℕ) → SetsTo (F.post byte) s.old at p c → s.new ≡ put s.old at c }
 {
+    // By index: what `byte` gives depends on the slice as it then is.
     for i in 0..p {
         s[at + i] = byte(s, i);
     }
@@ -49,10 +51,10 @@ pub fn xor_into(s: &mut [u8], at: usize, from: usize, src: &[u8])
     set_cell(s, at, src.len(), |s, i| s[at + i] ^ (s[from + i] ^ src[i]))
 }
 
-// The cell of `p` bytes of `out` at `at` becomes the XOR of those of `s` at `a` and at `b`.
-pub fn xor_cells(out: &mut [u8], at: usize, s: &[u8], a: usize, b: usize, p: usize)
-    requires { (at + p ≤ length out.old) × (a + p ≤ length s.now) × (b + p ≤ length s.now) }
-    ensures { out.new ≡ put out.old at (xor_bytes (cell s.now a p) (cell s.now b p)) }
+// The cell of `out` at `at` becomes the XOR of two cells.
+pub fn xor_cells(out: &mut [u8], at: usize, a: &[u8], b: &[u8])
+    requires { (at + length a.now ≤ length out.old) × (length b.now ≡ length a.now) }
+    ensures { out.new ≡ put out.old at (xor_bytes a.now b.now) }
 {
-    set_cell(out, at, p, |_, i| s[a + i] ^ s[b + i])
+    set_cell(out, at, a.len(), |_, i| a[i] ^ b[i])
 }

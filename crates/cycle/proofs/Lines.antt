@@ -15,18 +15,18 @@ use Rattle.simplex.specs.Limit.{In}
 use Rattle.audit.specs.Plan.{Pair, opens, opened, Serves}
 use Rattle.layout.specs.declared.Shape.{Shape}
 use Rattle.layout.specs.Shape.{InRange, banks, store_size, offset, cell_at}
+use Rattle.layout.proofs.Places.{inside}
 use Rattle.reads.specs.Reads.{read_count, row, group, symbol}
 use Rattle.reads.specs.Parts.{Named, Few}
 use Rattle.cycle.specs.Cycle.{pair_of, xor_of_cells, packet_of, line_of, packets_out, lines_out}
 use Rattle.cycle.specs.Served.{line, ServedRead, SystematicLines, OpenedOnce}
 use Rattle.cycle.proofs.Pairs.{pair_systematic, pair_serves, pairs_once}
-use Rattle.cycle.proofs.Serving.{within}
 
 -- ---- the packet that a pair of banks gives has P bytes
 
-module _ (sh : Shape) (s : List ℕ) (size : length s ≡ store_size sh) (x r : ℕ) (group-in : x < sh.m) (row_in : r < sh.g) where
+module _ (sh : Shape) (s : List ℕ) (size : length s ≡ store_size sh) (x r : ℕ) (group_in : x < sh.m) (row_in : r < sh.g) where
   in_store : (b : ℕ) → 1 ≤ b → b ≤ banks sh → offset sh x b r + sh.p ≤ length s
-  in_store b l u = within sh s size x r group-in row_in b (offset sh x b r) l u refl
+  in_store b l u = rw size (inside sh x b r (record { group = group_in; first = l; last = u; row = row_in }))
 
   length_read : (a b : ℕ) → 1 ≤ a → a ≤ banks sh → b ≤ banks sh → length (xor_of_cells sh s x r (opens a b)) ≡ sh.p
   length_read a zero l u v = length_xor_cell s (offset sh x a r) sh.p (zeros sh.p) (in_store a l u) (length-replicate sh.p 0)

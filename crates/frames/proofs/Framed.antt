@@ -1,12 +1,13 @@
 -- A line that is not refused with 17: what it is, and the bytes that it stands for. A frame that is a write: what it has.
-use mathlib.Core.Path.{◌≡◌, refl}
+use mathlib.Core.Path.{◌≡◌, refl, sym}
 use mathlib.Core.Bool.{Bool, true, false, cond, ◌&&◌}
 use mathlib.Core.List.{List}
-use Prim.Native.Nat.{ℕ, ◌*◌, ◌/◌, ◌%◌, ◌≤◌}
+use Prim.Native.Nat.{ℕ, ◌/◌, ◌%◌, ◌≤◌}
 use native.Mathlib.Omega.{arith}
 use borrow.Author.Tests.{eqb-true, leb-true}
 use lib.Dec.{eqb, leb}
-use lib.ListN.{length, take}
+use lib.ListN.{length, take, length-replicate}
+use Rattle.cells.specs.Xor.{zeros}
 use Rattle.refusals.specs.declared.Reason.TheVariants as reason
 use Rattle.refusals.specs.Verdict.{Accepted, between}
 use Rattle.refusals.proofs.Verdicts.{check_passed, both, between_words}
@@ -17,7 +18,7 @@ use Rattle.lines.specs.Lines.{each}
 use Rattle.lines.specs.Hex.{is_digit, bytes_of}
 use Rattle.lines.proofs.Digits.{length_bytes}
 use Rattle.frames.specs.declared.Frame.TheVariants.{SetUp, Write, Release, Read, Unknown}
-use Rattle.frames.specs.Frames.{most_characters, line_refusal, byte, frame_of}
+use Rattle.frames.specs.Frames.{most_characters, most_frame, line_refusal, byte, frame_of}
 
 pub record Framed (line : List ℕ) : Type 0 where
   pub some : 1 ≤ length line
@@ -36,12 +37,25 @@ framed line e =
     let w = between_words 1 most_characters (length line) u.0 in
     record { some = w.0; most = w.1; even = eqb-true _ _ u.1; digits = t.1 }
 
--- the front of a buffer that it is decoded into
-pub decoded : (line s left : List ℕ) → 2 * length s ≡ most_characters → length line ≤ most_characters → left ≡ put s 0 (bytes_of line)
-    → take (length line / 2) left ≡ bytes_of line
-decoded line s left size most e =
-    let l = length_bytes line in
-    rw e (cell_put s 0 (bytes_of line) (length line / 2) l (omega arith))
+-- decoded into a buffer of zeros: the front is a frame, of the bytes that the line stands for
+module _ (line left : List ℕ) (fine : Accepted ≡ line_refusal line) (e : left ≡ put (zeros most_frame) 0 (bytes_of line)) where
+  pub front : take (length line / 2) left ≡ bytes_of line
+  front =
+      let f = framed line (sym fine) in
+      let room = length-replicate {A = ℕ} most_frame 0 in
+      rw e (cell_put (zeros most_frame) 0 (bytes_of line) (length line / 2) (length_bytes line) (omega arith))
+
+  pub front_size : length line / 2 ≡ length (take (length line / 2) left)
+  front_size = rw (front, length_bytes)
+
+  pub front_some : 1 ≤ length (take (length line / 2) left)
+  front_some = let f = framed line (sym fine) in rw (← front_size) (omega arith)
+
+  pub front_most : length (take (length line / 2) left) ≤ most_frame
+  front_most = let f = framed line (sym fine) in rw (← front_size) (omega arith)
+
+-- what a decoded line owes a step
+pub ruleset decoded = (framed, front_size, front_some, front_most)
 
 -- ---- a write has a row
 

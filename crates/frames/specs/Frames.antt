@@ -41,6 +41,14 @@ answer_byte first = first + 128
 abbrev pub no_frame_byte : ℕ
 no_frame_byte = 255
 
+-- The same, by a frame's kind.
+abbrev pub first_byte : Frame → ℕ
+first_byte (SetUp sh) = answer_byte 1
+first_byte (Write row) = answer_byte 2
+first_byte (Release row) = answer_byte 3
+first_byte Read = answer_byte 4
+first_byte Unknown = no_frame_byte
+
 -- A refusal in bytes: its number, and its place in two, high first.
 abbrev pub refusal_said : Refusal → List ℕ
 refusal_said refusal = number_of refusal.reason ∷ (refusal.place / 256) ∷ (refusal.place % 256) ∷ []

@@ -2,7 +2,7 @@
 #![tactic(auto)]
 
 ghost use Rattle.std.specs.Prelude.{◌≡◌, ◌∷◌, ◌+◌, ◌*◌, ◌≤◌, ◌<◌, length};
-ghost use Rattle.frames.specs.Frames.{line_refusal, frame_of, said};
+ghost use Rattle.frames.specs.Frames.{line_refusal, frame_of, first_byte, said};
 ghost use Rattle.frames.specs.Printing.{Fits, Prints};
 
 use layout::Shape;
@@ -29,6 +29,21 @@ pub enum Frame {
     Release(usize),
     Read,
     Unknown,
+}
+
+impl Frame {
+    // The first byte of the answer to a frame.
+    pub fn first_byte(self) -> u8
+        ensures { result ≡ first_byte self }
+    {
+        match self {
+            Frame::SetUp(_) => 0x81,
+            Frame::Write(_) => 0x82,
+            Frame::Release(_) => 0x83,
+            Frame::Read => 0x84,
+            Frame::Unknown => 0xff,
+        }
+    }
 }
 
 // The refusal of a line: 17.
@@ -62,7 +77,8 @@ pub fn frame_of(bytes: &[u8]) -> Frame
     }
 }
 
-// Prints bytes as a line. Gives its length.
+// Prints bytes as a line. Gives its length, here and below, and no slice of the array: it is the caller's, since no heap is asked for.
+#[tactic(auto, using(crate::proofs::Printing::length_printed, crate::proofs::Printing::put_printed))]
 pub fn print_line(bytes: &[u8], out: &mut [u8]) -> usize
     requires { 2 * length bytes.now + 1 ≤ length out.old }
     ensures { Prints bytes.now out.old result out.new }
@@ -73,7 +89,8 @@ pub fn print_line(bytes: &[u8], out: &mut [u8]) -> usize
     end + 1
 }
 
-// Prints an answer, with the packets if it is of a cycle that is served. Gives the length of its line.
+// Prints an answer. The packets, which are read if it is of a cycle that is served, stand beside it, since memory's `Answer` has no bytes.
+#[tactic(auto, using(crate::proofs::Printing::high_byte))]
 pub fn print_answer(
     first: u8,
     answer: Result<Answer, Refusal>,
@@ -85,13 +102,14 @@ pub fn print_answer(
     ensures { Prints (first ∷ said packets.now answer) out.old result out.new }
 {
     match answer {
+        // `as` is proved to lose nothing, and no `From` narrows.
         Ok(Answer::FullRows(rows)) => print_line(&[first, 0, rows as u8], out),
         Ok(Answer::Served) => {
             hex::encode(&[first, 0], out);
             4 + print_line(packets, &mut out[4..])
         }
         Err(Refusal { reason, place }) => {
-            let [high, low] = (place as u16).to_be_bytes();
+            let [.., high, low] = place.to_be_bytes();
             print_line(&[first, reason.number(), high, low], out)
         }
     }

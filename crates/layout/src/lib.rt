@@ -1,14 +1,14 @@
 // The shape of a memory: its ranges, its sizes, and where each cell lies.
 #![tactic(auto)]
 
-ghost use Rattle.std.specs.Prelude.{◌≡◌};
-ghost use Rattle.layout.specs.Shape.{shape_refusal, InRange, store_size, generation_size, CellOf, offset};
+ghost use Rattle.std.specs.Prelude.{◌≡◌, length, get_or};
+ghost use Rattle.layout.specs.Shape.{shape_refusal, InRange, store_size, generation_size, CellOf, offset, cell_at};
 ghost use Rattle.layout.specs.Laws.{TheLayout};
 
 use refusals::{Reason, Refusal, Verdict, check, is_between};
 use simplex::{LEAST_SYMBOLS, MOST_SYMBOLS};
 
-// The most groups, bytes of a packet and rows of a memory.
+// The most groups of a memory, bytes of a packet, and rows.
 pub const MOST_GROUPS: usize = 8;
 
 const MOST_PACKET_BYTES: usize = 2048;
@@ -22,6 +22,27 @@ pub struct Shape {
     pub m: usize,
     pub p: usize,
     pub g: usize,
+}
+
+// The name of a packet: its row, its group and its symbol.
+#[derive(Clone, Copy, Debug, PartialEq, Eq)]
+pub struct PacketName {
+    pub row: usize,
+    pub group: usize,
+    pub symbol: usize,
+}
+
+// By the three bytes of a read.
+impl From<[u8; 3]> for PacketName {
+    ghost from_gives = { λ bytes name. name ≡ record { row = get_or bytes 0 0; group = get_or bytes 1 0; symbol = get_or bytes 2 0 } };
+
+    fn from([row, group, symbol]: [u8; 3]) -> PacketName {
+        PacketName {
+            row: usize::from(row),
+            group: usize::from(group),
+            symbol: usize::from(symbol),
+        }
+    }
 }
 
 // Carries the laws of a shape. It does nothing.
@@ -59,17 +80,21 @@ pub struct Geometry {
     pub ghost in_range: { InRange shape },
 }
 
-impl Geometry {
+// The geometry of a shape, or set-up's refusal of it: 1 to 4.
+impl TryFrom<Shape> for Geometry {
+    type Error = Refusal;
+
     ghost use Rattle.layout.specs.Judged.{Judged};
 
-    // The geometry of a shape, or set-up's refusal of it: 1 to 4.
-    pub fn of(shape: Shape) -> Result<Geometry, Refusal>
-        ensures { Judged shape (shape_refusal shape) result }
-    {
+    ghost try_from_gives = { λ shape result. Judged shape (shape_refusal shape) result };
+
+    fn try_from(shape: Shape) -> Result<Geometry, Refusal> {
         judge_shape(shape)?;
         Ok(Geometry { shape })
     }
+}
 
+impl Geometry {
     // The store's length.
     #[tactic(auto, using(simplex::proofs::Tables::banks_of_lem), unfolding(crate::specs::Shape::store_size))]
     pub fn store_size(self) -> usize
@@ -98,5 +123,25 @@ impl Geometry {
         let shape = self.shape;
         let group = simplex::group_of(shape.k);
         ((x * group.banks + b - 1) * shape.g + r) * shape.p
+    }
+}
+
+// A store of a geometry's size, lent for reading.
+#[derive(Clone, Copy, Debug, PartialEq, Eq)]
+pub struct Store<'a> {
+    pub geometry: Geometry,
+    pub bytes: &'a [u8],
+    pub ghost sized: { length bytes.now ≡ store_size geometry.shape },
+}
+
+impl<'a> Store<'a> {
+    // What bank b of group x keeps for row r.
+    #[tactic(auto, using(crate::proofs::Places::inside))]
+    pub fn cell_at(self, x: usize, b: usize, r: usize) -> &'a [u8]
+        requires { CellOf self.geometry.shape x b r }
+        ensures { result.now ≡ cell_at self.entry.geometry.shape self.entry.bytes.now x b r }
+    {
+        let at = self.geometry.offset_of(x, b, r);
+        &self.bytes[at..at + self.geometry.shape.p]
     }
 }

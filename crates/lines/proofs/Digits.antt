@@ -72,6 +72,10 @@ pair_digits (high ∷ []) (suc n) i l h e = absurd (omega arith)
 pair_digits (high ∷ low ∷ digits) (suc n) zero l h e = let t = first_two high low digits e in (t.0, t.1)
 pair_digits (high ∷ low ∷ digits) (suc n) (suc i) l h e = pair_digits digits n i (omega arith) (omega arith) (first_two high low digits e).2
 
+pub low_digit : (digits : List ℕ) (n i : ℕ) → i < n → 2 * n ≤ length digits → each is_digit digits ≡ true
+    → is_digit (get_or (get_or (first_chunks 2 n digits) i []) 1 0) ≡ true
+low_digit digits n i l h e = (pair_digits digits n i l h e).1
+
 pub pair_byte : (digits : List ℕ) (n i : ℕ) → i < n → 2 * n ≤ length digits
     → let pair = get_or (first_chunks 2 n digits) i [] in value_of (get_or pair 0 0) * 16 + value_of (get_or pair 1 0) ≡ get_or (bytes_of digits) i 0
 unfolding bytes_of

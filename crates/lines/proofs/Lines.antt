@@ -10,10 +10,13 @@ use native.Mathlib.Omega.{arith}
 use Rattle.std.proofs.lemmas.List.{length-take}
 use Rattle.std.proofs.lemmas.List.Folds.{length-prefix_len}
 use Rattle.std.proofs.lemmas.Bool.Decides.{nat_tests}
-use lib.Dec.{eqb}
+use lib.Dec.{eqb, ltb}
+use borrow.Author.Tests.{ltb-true}
+use Rattle.std.specs.Prelude.{Some, None}
+use Rattle.lines.specs.declared.reader.Line.{Line}
 use lib.ListN.{length, take, drop, length-drop, drop_of_length-le}
 use lib.Seq.{drop-drop}
-use Rattle.lines.specs.Lines.{line_feed, in_front, lines_of, first_line, line_end, line_at, each, no_line_feed, joined, closed}
+use Rattle.lines.specs.Lines.{line_feed, in_front, lines_of, first_line, line_end, line_at, line_found, each, no_line_feed, joined, closed}
 use Rattle.lines.specs.Laws.{TheLines}
 
 -- ---- the first line of a text
@@ -65,6 +68,23 @@ module _ (text : List ℕ) (at : ℕ) where
   -- what stands from there to its end
   pub line_part : take (line_end text at - at) (drop at text) ≡ first_line (drop at text)
   line_part = let l : line_end text at - at ≡ length (first_line (drop at text)) = omega arith in rw l (first_take (drop at text))
+
+-- what a reader has found: something is left, and the line stands in the text
+pub record Found (text : List ℕ) (at : ℕ) (line : Line) : Type 0 where
+  pub left : at < length text
+  pub same : line ≡ line_at text at
+  pub within : line.end ≤ length text
+  pub part : take (line.end - at) (drop at text) ≡ first_line (drop at text)
+
+pub found : (text : List ℕ) (at : ℕ) (line : Line) → Some line ≡ line_found text at → Found text at line
+found text at line e = go (ltb at (length text)) refl e
+  where
+    go : (t : Bool) → ltb at (length text) ≡ t → Some line ≡ cond t (Some (line_at text at)) None → Found text at line
+    go true l e =
+        let left = ltb-true at (length text) l in
+        let same : line ≡ line_at text at = cc in
+        rw same (record { left = left; same = refl; within = end_within text at (omega arith); part = line_part text at })
+    go false l e = absurd (cc)
 
 -- what is behind the line, whether or not it has a line feed
 behind : (text : List ℕ) (at : ℕ) → lines_of (drop (line_end text at + 1) text) ≡ lines_of (drop (line_at text at).next text)

@@ -1,5 +1,5 @@
 -- The lines of a text, and where a reader finds them.
-use Rattle.std.specs.Prelude.{Bool, cond, not, List, [], ◌∷◌, ◌++◌, ℕ, ◌+◌, eqb, ltb, length, drop}
+use Rattle.std.specs.Prelude.{Bool, cond, not, List, [], ◌∷◌, ◌++◌, ℕ, ◌+◌, eqb, ltb, length, drop, Option, Some, None}
 use Rattle.std.specs.List.{list_all}
 use Rattle.lines.specs.declared.reader.Line.{Line}
 
@@ -38,6 +38,10 @@ line_end text at = at + length (first_line (drop at text))
 -- That line: its end, and where the next one starts, behind the line feed if there is one. At the end of the text both are that index.
 abbrev pub line_at : List ℕ → ℕ → Line
 line_at text at = let end = line_end text at in record { end = end; next = cond (ltb end (length text)) (end + 1) end }
+
+-- What a reader finds at an index: that line, or none where the text ends there.
+abbrev pub line_found : List ℕ → ℕ → Option Line
+line_found text at = cond (ltb at (length text)) (Some (line_at text at)) None
 
 -- ---- the words of their laws
 

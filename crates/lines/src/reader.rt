@@ -1,16 +1,16 @@
 // The lines of a text, and a reader that holds the text and how far it has been read.
 ghost use Rattle.std.specs.Prelude.{◌≡◌};
-ghost use Rattle.lines.specs.Lines.{line_end, line_at};
+ghost use Rattle.lines.specs.Lines.{line_end, line_found};
 
 // A line: where it ends, and where the next one starts.
-#[derive(Clone, Copy)]
+#[derive(Clone, Copy, Debug, PartialEq, Eq)]
 pub struct Line {
     pub end: usize,
     pub next: usize,
 }
 
 // A text, and how far it has been read. The project's rules name this form, and the thin functions on it below.
-#[derive(Clone, Copy)]
+#[derive(Clone, Copy, Debug, PartialEq, Eq)]
 pub struct Reader<'a> {
     pub text: &'a [u8],
     pub at: usize,
@@ -24,16 +24,16 @@ fn line_end(text: &[u8], at: usize) -> usize
     at + rest.iter().take_while(|c| **c != b'\n').count()
 }
 
-// The line that starts at `at`. Where the text ends there, there is none, and `next` is `at`.
-fn line_at(text: &[u8], at: usize) -> Line
-    ensures { result ≡ line_at text.now at }
+// The line that starts at `at`, if the text does not end there.
+fn line_at(text: &[u8], at: usize) -> Option<Line>
+    ensures { result ≡ line_found text.now at }
 {
-    let end = line_end(text, at);
-    if end < text.len() {
-        Line { end, next: end + 1 }
-    } else {
-        Line { end, next: end }
+    if text.len() <= at {
+        return None;
     }
+    let end = line_end(text, at);
+    let next = if end < text.len() { end + 1 } else { end };
+    Some(Line { end, next })
 }
 
 impl<'a> Reader<'a> {
@@ -44,24 +44,17 @@ impl<'a> Reader<'a> {
         Reader { text, at }
     }
 
-    // The line that comes next.
-    pub fn line(self) -> Line
-        ensures { result ≡ line_at self.entry.text.now self.entry.at }
+    // The line that comes next, if one is left.
+    pub fn line(self) -> Option<Line>
+        ensures { result ≡ line_found self.entry.text.now self.entry.at }
     {
         line_at(self.text, self.at)
     }
 
-    // The reader moved on to where another line starts, for a caller that holds a reader.
+    // The reader moved on to where another line starts.
     pub fn moved(self, at: usize) -> Reader<'a>
         ensures { (result.text ≡ self.entry.text) × (result.at ≡ at) }
     {
         Reader { at, ..self }
     }
-}
-
-// What a reader of the text finds at `at`, for a caller that keeps the two itself.
-pub fn next_line(text: &[u8], at: usize) -> Line
-    ensures { result ≡ line_at text.now at }
-{
-    Reader::new(text, at).line()
 }

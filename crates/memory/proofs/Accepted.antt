@@ -6,13 +6,12 @@ use Prim.Native.Nat.{ℕ, ◌<◌}
 use borrow.Author.Tests.{eqb-true, ltb-true, not-true, eq-eqb, ne_eqb, lt-ltb, le-ltb}
 use Rattle.refusals.specs.Verdict.{Accepted}
 use Rattle.refusals.proofs.Verdicts.{checks}
-use Rattle.reads.specs.Refusals.{list_refusal}
 use Rattle.reads.proofs.Accepted.{Accepts, accepts, accepted}
 use Rattle.memory.specs.declared.State.{State}
-use Rattle.layout.specs.Shape.{store_size, generation_size, InRange}
+use Rattle.layout.specs.Shape.{store_size, generation_size}
 use Rattle.memory.specs.State.{is_full, sound, Sound}
 use Rattle.memory.specs.Laws.{RightUpdate, WrongUpdate}
-use Rattle.memory.proofs.States.{sound_words, words_sound, sound_ranges}
+use Rattle.memory.proofs.States.{sound_words, words_sound}
 use Rattle.memory.specs.Operations.{store_refusal, write_refusal, update_refusal, release_refusal, cycle_refusal}
 
 ruleset tests = (checks, eqb-true, ltb-true, not-true)
@@ -37,9 +36,6 @@ pub record Readable (st : State) (size : ℕ) (reads : List ℕ) (out schedule :
 -- where a store is lent: the checks in their order
 pub store_facts : (st : State) (size : ℕ) → store_refusal st size ≡ Accepted → (sound st ≡ true) × (size ≡ store_size st.shape)
 store_facts st size e = search tests
-
-pub lent : (st : State) (size : ℕ) → store_refusal st size ≡ Accepted → InRange st.shape × (size ≡ store_size st.shape)
-lent st size e = let f = store_facts st size e in (sound_ranges st f.0, f.1)
 
 pub written_facts : (st : State) (size row len : ℕ) → write_refusal st size row len ≡ Accepted → Writable st size row len
 unfolding write_refusal
@@ -76,16 +72,10 @@ pub released_facts : (st : State) (row : ℕ) → release_refusal st row ≡ Acc
 unfolding release_refusal
 released_facts st row e = search tests
 
-pub release_toggles : (st : State) (row : ℕ) → release_refusal st row ≡ Accepted → (sound st ≡ true) × (row < st.shape.g)
-release_toggles st row e = let f = released_facts st row e in (f.state, f.below)
-
 pub read_facts : (st : State) (size : ℕ) (reads : List ℕ) (out schedule : ℕ) → cycle_refusal st size reads out schedule ≡ Accepted
     → Readable st size reads out schedule
 unfolding cycle_refusal
-read_facts st size reads out schedule e =
-    let list : list_refusal st.shape (is_full st) reads out schedule ≡ Accepted = search checks in
-    let store : size ≡ store_size st.shape = search tests in
-    record { state = search checks; store = store; list = accepts st.shape (is_full st) reads out schedule list }
+read_facts st size reads out schedule e = search (tests, accepts)
 
 pub facts_read : (st : State) (size : ℕ) (reads : List ℕ) (out schedule : ℕ) → Readable st size reads out schedule
     → cycle_refusal st size reads out schedule ≡ Accepted

@@ -3,14 +3,15 @@ use mathlib.Core.Path.{◌≡◌, refl, sym, ap, ◌∙◌}
 use mathlib.Core.List.{List, []}
 use Prim.Native.Nat.{ℕ, zero, suc, ◌%◌, ◌≤◌, ◌<◌}
 use native.Mathlib.Omega.{arith}
+use Rattle.std.proofs.lemmas.Bool.{and_parts}
 use borrow.Author.Tests.{eqb-true}
 use lib.Dec.{eqb}
 use lib.ListN.{length, get_or}
 use Rattle.refusals.specs.declared.Reason.TheVariants as reason
 use Rattle.std.specs.Prelude.{Ok, Err}
 use Rattle.refusals.specs.declared.Refusal.{Refusal}
-use Rattle.refusals.specs.Verdict.{Verdict, Accepted, refused, answer_by, if_refused}
-use Rattle.refusals.proofs.Verdicts.{answered, check_passed, never_check, never_then, skips, both}
+use Rattle.refusals.specs.Verdict.{Verdict, Accepted, refused, answer_by}
+use Rattle.refusals.proofs.Verdicts.{answered, check_passed, never_check, never_then, skips}
 use Rattle.simplex.specs.Shape.{limit_of}
 use Rattle.simplex.specs.Limit.{total}
 use Rattle.simplex.specs.Code.{Packet, Sized, bank_cell, xor_of_banks}
@@ -21,20 +22,18 @@ use Rattle.audit.proofs.Served.{opens_xor, opened_yields}
 use Rattle.layout.specs.declared.Shape.{Shape}
 use Rattle.layout.specs.Shape.{banks, store_size, cell_at}
 use Rattle.reads.specs.Reads.{symbol, counts_of, reads_in}
-use Rattle.reads.specs.Refusals.{list_refusal}
 use Rattle.reads.specs.Parts.{Named}
 use Rattle.reads.proofs.Counting.{reads_many}
 use Rattle.reads.proofs.Accepted.{form_named}
 use Rattle.reads.proofs.Refused.{over}
-use Rattle.cycle.specs.Cycle.{xor_of_cells, packets_out, lines_out}
+use Rattle.cycle.specs.Cycle.{xor_of_cells}
 use Rattle.cycle.specs.Served.{PlansAudited, SystematicLines, OpenedOnce}
 use Rattle.cycle.proofs.Pairs.{plans_audited}
 use Rattle.cycle.proofs.Lines.{systematic_lines, served_read, opened_once}
 use Rattle.memory.specs.declared.State.{State}
-use Rattle.memory.specs.declared.Outcome.{Outcome}
 use Rattle.memory.specs.declared.Answer.TheVariants.{Served}
 use Rattle.memory.specs.State.{is_full, sound, Sound}
-use Rattle.memory.specs.Operations.{store_refusal, cycle_refusal, cycle_outcome, cycle_output, cycle_schedule}
+use Rattle.memory.specs.Operations.{store_refusal, cycle_refusal, cycle_output, cycle_schedule}
 use Rattle.memory.specs.Demand3.{RightForm, NamedRowsFull, NoneTooMany, ServedCycle, TooMany, Demand3}
 use Rattle.memory.proofs.States.{sound_words}
 use Rattle.memory.proofs.Accepted.{Readable, store_facts, read_facts, facts_read}
@@ -42,8 +41,7 @@ use Rattle.memory.proofs.Accepted.{Readable, store_facts, read_facts, facts_read
 -- ---- what an answer tells of the verdict
 
 answered_no : (v : Verdict) (refusal : Refusal) → answer_by Served v ≡ Err refusal → v ≡ Err refusal
-answered_no Accepted refusal e = cc
-answered_no (Err own) refusal e = let same : own ≡ refusal = cc in ap Err same
+answered_no v refusal e = grind (arith, e)
 
 module _ (st : State) (s reads out schedule : List ℕ) where
   abbrev sh : Shape
@@ -62,21 +60,20 @@ module _ (st : State) (s reads out schedule : List ℕ) where
     ok : Sound st
     ok = sound_words st f.state
 
+    accepted : refusal ≡ Accepted
+    accepted = facts_read st (length s) reads (length out) (length schedule) f
+
     none_too_many : NoneTooMany sh reads
     none_too_many x l = rw (many ok f.list.named x) (f.list.few x l)
 
     pub serves_all_lem : ServedCycle st s reads (answer_by Served refusal) (cycle_output st s reads out schedule) (cycle_schedule st s reads out schedule)
-    serves_all_lem =
-        let e = facts_read st (length s) reads (length out) (length schedule) f in
-        rw e (record {
-          answered = refl;
-          each = served_read sh ok.ranges s reads f.store f.list.named f.list.few schedule f.list.schedule_size out f.list.out_size;
-        })
+    serves_all_lem = rw accepted (record {
+      answered = refl;
+      each = served_read sh ok.ranges s reads f.store f.list.named f.list.few schedule f.list.schedule_size out f.list.out_size;
+    })
 
     opens_once : OpenedOnce reads (cycle_schedule st s reads out schedule)
-    opens_once =
-        let e = facts_read st (length s) reads (length out) (length schedule) f in
-        rw e (opened_once sh ok.ranges s reads f.store f.list.named f.list.few schedule f.list.schedule_size)
+    opens_once = rw accepted (opened_once sh ok.ranges s reads f.store f.list.named f.list.few schedule f.list.schedule_size)
 
   pub facts : answer_by Served refusal ≡ Ok Served → Readable st (length s) reads (length out) (length schedule)
   facts e = read_facts st (length s) reads (length out) (length schedule) ((answered Served refusal Served (sym e)).1)
@@ -87,7 +84,7 @@ module _ (st : State) (s reads out schedule : List ℕ) where
   readable form full few =
       let store = store_facts st (length s) form.store in
       let named : Named sh reads = λ n l. form_named sh reads n (form.named n l) in
-      let fit = (both _ _).0 (check_passed reason.BufferLengths 0 _ form.buffers) in
+      let fit = and_parts _ _ (check_passed reason.BufferLengths 0 _ form.buffers) in
       record {
         state = store.0;
         store = store.1;
@@ -117,7 +114,7 @@ module _ (st : State) (s reads out schedule : List ℕ) where
         fails = λ sets. limit_of_reads sh.k sh.p (reads_in reads x) ok.ranges.bytes.0 sets more;
       }
 
-  demand3 : Demand3 st s reads (length out) (length schedule) (answer_by Served refusal) (cycle_output st s reads out schedule) (cycle_schedule st s reads out schedule)
+  pub demand3 : Demand3 st s reads (length out) (length schedule) (answer_by Served refusal) (cycle_output st s reads out schedule) (cycle_schedule st s reads out schedule)
   demand3 = record {
     exactly = λ form full. (λ served. none_too_many (facts served.answered), λ few. serves_all_lem (readable form full few));
     served = λ e. serves_all_lem (facts e);
@@ -127,47 +124,13 @@ module _ (st : State) (s reads out schedule : List ℕ) where
     refused = λ x e. too_many x (answered_no refusal (record { reason = reason.TooManyReads; place = x }) e);
   }
 
-  audited : answer_by Served refusal ≡ Ok Served → PlansAudited sh reads
+  pub audited : answer_by Served refusal ≡ Ok Served → PlansAudited sh reads
   audited e = let f = facts e in plans_audited sh reads (sound_words st f.state).ranges.symbols f.list.named f.list.few
 
-  systematic : answer_by Served refusal ≡ Ok Served → SystematicLines reads (cycle_schedule st s reads out schedule)
+  pub systematic : answer_by Served refusal ≡ Ok Served → SystematicLines reads (cycle_schedule st s reads out schedule)
   systematic e =
       let f = facts e in
-      rw ((answered Served refusal Served (sym e)).1) (systematic_lines sh reads schedule f.list.schedule_size (ok f).ranges.symbols f.list.named)
-
-  -- ---- the promise of a cycle that gives this and leaves these buffers
-
-  abbrev Promise : (given : Outcome) (out' schedule' : List ℕ) → Type 0
-  Promise given out' schedule' = record {
-    outcome : given ≡ cycle_outcome st (length s) reads (length out) (length schedule);
-    output : out' ≡ cycle_output st s reads out schedule;
-    lines : schedule' ≡ cycle_schedule st s reads out schedule;
-    demand3 : Demand3 st s reads (length out) (length schedule) given.answer out' schedule';
-    plans : given.answer ≡ Ok Served → PlansAudited sh reads;
-    systematic : given.answer ≡ Ok Served → SystematicLines reads schedule';
-  }
-
-  promised : (v : Verdict) → refusal ≡ v → (out' schedule' : List ℕ)
-      → out' ≡ if_refused out (packets_out sh s reads out) v → schedule' ≡ if_refused schedule (lines_out sh reads schedule) v
-      → Promise (record { state = st; answer = answer_by Served v }) out' schedule'
-  promised v e out' schedule' packets lines =
-      let a : v ≡ refusal = sym e in
-      let b : out' ≡ cycle_output st s reads out schedule = rw e packets in
-      let c : schedule' ≡ cycle_schedule st s reads out schedule = rw e lines in
-      record { outcome = rw a refl; output = b; lines = c; demand3 = rw (a, b, c) demand3; plans = rw a audited; systematic = rw (a, c) systematic }
-
-  -- by the verdict on the state and the store
-  pub refused_store : (r : Refusal) → Err r ≡ store_refusal st (length s) → Promise (record { state = st; answer = Err r }) out schedule
-  unfolding cycle_refusal
-  refused_store r e = promised (Err r) (rw (← e) refl) out schedule refl refl
-
-  -- by the verdict on the list and the buffers
-  pub by_the_list : (v w : Verdict) → Accepted ≡ store_refusal st (length s) → v ≡ list_refusal sh (is_full st) reads (length out) (length schedule) → v ≡ w
-      → (out' schedule' : List ℕ) → out' ≡ if_refused out (packets_out sh s reads out) v → schedule' ≡ if_refused schedule (lines_out sh reads schedule) v
-      → Promise (record { state = st; answer = answer_by Served w }) out' schedule'
-  unfolding cycle_refusal
-  by_the_list v w e f same out' schedule' packets lines =
-      promised w (rw (← e) (sym f ∙ same)) out' schedule' (rw (← same) packets) (rw (← same) lines)
+      rw (accepted f) (systematic_lines sh reads schedule f.list.schedule_size (ok f).ranges.symbols f.list.named)
 
 -- ---- the packet of a pair, where the cells of its row are those of the code
 

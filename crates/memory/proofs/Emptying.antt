@@ -1,10 +1,12 @@
 -- The rows of a set: when its release is refused and what its acceptance tells, and the state with these rows empty.
-use mathlib.Core.Path.{◌≡◌, refl, sym, ◌∙◌}
+use mathlib.Core.Path.{◌≡◌, sym, ◌∙◌}
 use mathlib.Core.Logic.{⊎_elim, ◌↔◌}
-use mathlib.Core.Bool.{Bool, true, false, ◌&&◌, ◌||◌, not, false≢true}
+use mathlib.Core.Bool.{Bool, true, ◌&&◌, ◌||◌, not}
 use Prim.Native.Nat.{ℕ, ◌+◌, ◌<◌}
 use native.Mathlib.Omega.{arith}
-use borrow.Author.Tests.{not-true, not-false, ltb-true, ltb-false, lt-ltb, le-leb, lt-leb}
+use Rattle.std.proofs.lemmas.Bool.{and_parts, or_parts, cases_lt}
+use Rattle.std.proofs.lemmas.Bool.Decides.{leb_tells}
+use borrow.Author.Tests.{not-true, not-false, lt-ltb}
 use lib.Dec.{leb, ltb}
 use Rattle.bits.specs.Marks.{marked, how_many}
 use Rattle.bits.specs.Sets.{set_of, First}
@@ -15,38 +17,26 @@ use Rattle.refusals.specs.declared.Refusal.{Refusal}
 use Rattle.refusals.specs.declared.Reason.{Reason}
 use Rattle.refusals.specs.declared.Reason.TheVariants as reason
 use Rattle.refusals.specs.Verdict.{Verdict, Accepted, refused, check, ◌then◌}
-use Rattle.refusals.proofs.Verdicts.{checks, check_passed, check_refused, stops, all_accepted, accepted_all, first_refused, first_same, then_refused, both}
+use Rattle.refusals.proofs.Verdicts.{checks, check_passed, check_refused, stops, all_accepted, accepted_all, first_refused, first_same, then_refused}
 use Rattle.layout.specs.Shape.{most_rows}
 use Rattle.memory.specs.declared.State.{State}
 use Rattle.memory.specs.State.{is_full, full_rows, sound, Sound, rows_emptied}
 use Rattle.memory.specs.Operations.{each_row, release_set_refusal}
 use Rattle.memory.specs.Laws.{FirstRow, NoRow}
-use Rattle.memory.proofs.States.{sound_words, words_sound}
+use Rattle.memory.proofs.States.{words_sound}
 use Rattle.memory.proofs.Toggling.{all_counted}
 
 -- ---- a check of each row of a set
-
-implied : (m t : Bool) → (not m || t) ≡ true → m ≡ true → t ≡ true
-implied true t e h = e
-implied false t e h = absurd (false≢true h)
-
-implies : (m t : Bool) → (m ≡ true → t ≡ true) → (not m || t) ≡ true
-implies true t h = h refl
-implies false t h = refl
-
-fails : (m t : Bool) → (not m || t) ≡ false → (m ≡ true) × (t ≡ false)
-fails true t e = (refl, e)
-fails false t e = absurd (false≢true (sym e))
 
 module _ (why : Reason) (set : ℕ) (test : ℕ → Bool) where
   abbrev judged : ℕ → Verdict
   judged r = check why r (not (marked set r) || test r)
 
   passed : (r : ℕ) → (marked set r ≡ true → test r ≡ true) → judged r ≡ Accepted
-  passed r h = rw (implies (marked set r) (test r) h)
+  passed r h = grind (arith, h)
 
   passing : (r : ℕ) → judged r ≡ Accepted → marked set r ≡ true → test r ≡ true
-  passing r e = implied (marked set r) (test r) (check_passed why r _ e)
+  passing r e m = rw m at (check_passed why r _ e)
 
   -- the first row of the set that does not pass settles it
   row_refused : (r : ℕ) → FirstRow set (λ i. not (test i)) r → each_row why set test ≡ refused why r
@@ -61,11 +51,11 @@ module _ (why : Reason) (set : ℕ) (test : ℕ → Bool) where
       let own : Refusal = record { reason = n; place = r } in
       let t = first_refused judged most_rows own e in
       let c = check_refused why t.0 _ own t.2 in
-      let f = fails (marked set t.0) (test t.0) c.2 in (
+      let f = or_parts (not (marked set t.0)) (test t.0) c.2 in (
         c.0,
         rw (← c.1) (record {
           row = t.1;
-          in_set = f.0;
+          in_set = not-false _ f.0;
           passes = rw f.1;
           before = λ i l m. rw (passing i (t.3 i l) m);
         }),
@@ -82,7 +72,7 @@ module _ (why : Reason) (set : ℕ) (test : ℕ → Bool) where
   -- as the code finds it
   found_row : (r : ℕ) → First (λ i. marked set i && not (test i)) most_rows (Some r) → FirstRow set (λ i. not (test i)) r
   found_row r f =
-      let it = (both (marked set r) (not (test r))).0 f.itself in
+      let it = and_parts (marked set r) (not (test r)) f.itself in
       record { row = f.below; in_set = it.0; passes = it.1; before = λ i b m. rw m at (f.before i b) }
 
   found_none : First (λ i. marked set i && not (test i)) most_rows None → (r : ℕ) → r < most_rows → marked set r ≡ true → test r ≡ true
@@ -109,7 +99,7 @@ pub set_refusal_by_sets : (st : State) (set : ℕ) → release_set_refusal st se
     ≡ check reason.BrokenState 0 (sound st) then each_row reason.NoSuchRow set (marked (set_of (λ i. ltb i st.shape.g) most_rows)) then each_row reason.EmptyRow set (marked st.full)
 unfolding release_set_refusal
 set_refusal_by_sets st set =
-    rw (rows_alike reason.NoSuchRow set (marked (set_of (λ i. ltb i st.shape.g) most_rows)) (λ i. ltb i st.shape.g) (marked_set (λ i. ltb i st.shape.g) most_rows)) refl
+    rw (rows_alike reason.NoSuchRow set (marked (set_of (λ i. ltb i st.shape.g) most_rows)) (λ i. ltb i st.shape.g) (marked_set (λ i. ltb i st.shape.g) most_rows))
 
 -- ---- an accepted release
 
@@ -139,11 +129,7 @@ facts_set_released st set s full = rw (
 
 -- 7's test, the one way and the other
 past_test : (g i : ℕ) → not (ltb i g) ≡ leb g i
-past_test g i = go (ltb i g) refl
-  where
-    go : (t : Bool) → ltb i g ≡ t → not t ≡ leb g i
-    go true e = sym (lt-leb g i (ltb-true i g e))
-    go false e = sym (le-leb g i (ltb-false i g e))
+past_test g i = grind (arith, leb_tells)
 
 first_alike : (set r : ℕ) (f g : ℕ → Bool) → ((i : ℕ) → f i ≡ g i) → FirstRow set f r → FirstRow set g r
 first_alike set r f g same w = record {
@@ -152,9 +138,6 @@ first_alike set r f g same w = record {
   passes = sym (same r) ∙ w.passes;
   before = λ i l m. sym (same i) ∙ w.before i l m;
 }
-
-other : ◌≡◌ {A = Reason} reason.EmptyRow reason.NoSuchRow → ⊥
-other e = cc
 
 module _ (st : State) (set r : ℕ) (s : Sound st) where
   abbrev below : ℕ → Bool
@@ -167,7 +150,7 @@ module _ (st : State) (set r : ℕ) (s : Sound st) where
   unfolding release_set_refusal
   seven = (
     λ e. ⊎_elim (λ a. first_alike set r _ _ (past_test st.shape.g) (refused_row reason.NoSuchRow set below reason.NoSuchRow r a).1)
-        (λ b. let wrong : reason.EmptyRow ≡ reason.NoSuchRow = (refused_row reason.EmptyRow set (is_full st) reason.NoSuchRow r b.1).0 in absurd (other wrong))
+        (λ b. let wrong : reason.EmptyRow ≡ reason.NoSuchRow = (refused_row reason.EmptyRow set (is_full st) reason.NoSuchRow r b.1).0 in cc)
         (then_refused _ (each_row reason.EmptyRow set (is_full st)) (record { reason = reason.NoSuchRow; place = r }) (rw (words_sound st s) at e)),
     λ f. rw (words_sound st s, row_refused reason.NoSuchRow set below r (first_alike set r _ _ (λ i. sym (past_test st.shape.g i)) f)),
   )
@@ -175,7 +158,7 @@ module _ (st : State) (set r : ℕ) (s : Sound st) where
   pub nine : (release_set_refusal st set ≡ refused reason.EmptyRow r) ↔ (NoRow set past × FirstRow set (λ i. not (is_full st i)) r)
   unfolding release_set_refusal
   nine = (
-    λ e. ⊎_elim (λ a. let wrong : reason.NoSuchRow ≡ reason.EmptyRow = (refused_row reason.NoSuchRow set below reason.EmptyRow r a).0 in absurd (other (sym wrong)))
+    λ e. ⊎_elim (λ a. let wrong : reason.NoSuchRow ≡ reason.EmptyRow = (refused_row reason.NoSuchRow set below reason.EmptyRow r a).0 in cc)
         (λ b. (λ i l m. sym (past_test st.shape.g i) ∙ rw (accepted_rows reason.NoSuchRow set below b.0 i l m), (refused_row reason.EmptyRow set (is_full st) reason.EmptyRow r b.1).1))
         (then_refused _ (each_row reason.EmptyRow set (is_full st)) (record { reason = reason.EmptyRow; place = r }) (rw (words_sound st s) at e)),
     λ f. rw (
@@ -189,16 +172,13 @@ module _ (st : State) (set r : ℕ) (s : Sound st) where
 
 module _ (st : State) (set : ℕ) (s : Sound st) where
   pub emptied_rows : (r : ℕ) → is_full (rows_emptied st set) r ≡ (is_full st r && not (marked set r))
-  emptied_rows r = go (ltb r most_rows) refl
+  emptied_rows r =
+      ⊎_elim (marked_set left most_rows r)
+      (λ past. rw (s.rows r (omega (arith, s.ranges.rows.1))) (marked_past left most_rows r past))
+      (cases_lt r most_rows)
     where
       left : ℕ → Bool
       left r = is_full st r && not (marked set r)
-
-      go : (t : Bool) → ltb r most_rows ≡ t → is_full (rows_emptied st set) r ≡ left r
-      go true l = marked_set left most_rows r (ltb-true r most_rows l)
-      go false l =
-          let past = ltb-false r most_rows l in
-          rw (s.rows r (omega (arith, s.ranges.rows.1))) (marked_past left most_rows r past)
 
   pub emptied_sound : Sound (rows_emptied st set)
   emptied_sound = record { ranges = s.ranges; rows = λ r l. emptied_rows r ∙ rw (s.rows r l) }
@@ -208,7 +188,3 @@ module _ (st : State) (set : ℕ) (s : Sound st) where
   emptied_count full =
       rw (← all_counted (rows_emptied st set) emptied_sound, ← all_counted st s, same_many _ _ most_rows (λ r _. emptied_rows r))
       (many_without (is_full st) (marked set) most_rows full)
-
-pub emptied_counted : (st : State) (set : ℕ) → release_set_refusal st set ≡ Accepted
-    → how_many (marked (rows_emptied st set).full) most_rows ≡ full_rows (rows_emptied st set)
-emptied_counted st set e = all_counted (rows_emptied st set) (emptied_sound st set (sound_words st (set_released_facts st set e).state))

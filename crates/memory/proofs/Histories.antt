@@ -1,20 +1,20 @@
 -- What a memory holds and answers after any history: whatever is asked of it, it stays as the history says.
 use mathlib.Core.Path.{◌≡◌, refl, sym, ap, ◌∙◌, subst}
-use mathlib.Core.Logic.{◌≢◌}
+use mathlib.Core.Logic.{◌≢◌, ⊎_elim}
 use mathlib.Core.Bool.{Bool, true, false, cond, ◌&&◌, not, false≢true}
 use mathlib.Core.List.{List, [], ◌∷◌}
 use Prim.Native.Nat.{ℕ, ◌+◌, ◌*◌, ◌<◌, zero-le}
 use native.Mathlib.Omega.{arith}
-use native.Mathlib.Decide.{ℕ_discrete}
+use Rattle.std.proofs.lemmas.Bool.{and_parts, cases_eq}
 use borrow.Author.Tests.{eq-eqb, ne_eqb}
 use lib.Dec.{eqb}
 use lib.ListN.{length}
 use Rattle.bits.specs.Marks.{marked, how_many}
 use Rattle.bits.proofs.Marks.{unmarked, same_many, none_more}
 use Rattle.std.specs.Prelude.{Ok, Err}
+use Rattle.refusals.specs.declared.Refusal.{Refusal}
 use Rattle.refusals.specs.declared.Reason.TheVariants as reason
 use Rattle.refusals.specs.Verdict.{Verdict, Accepted, answer_by, if_refused}
-use Rattle.refusals.proofs.Verdicts.{both}
 use Rattle.cells.specs.Cell.{cell}
 use Rattle.cells.proofs.Cells.{length_put}
 use Rattle.simplex.specs.Code.{bank_cell}
@@ -69,25 +69,29 @@ record Done (sh : Shape) (full : ℕ → Bool) (last : ℕ → List ℕ) (v : Ve
 empty_row : {sh : Shape} {st : State} {s : List ℕ} {r : ℕ} {last : List ℕ} → is_full st r ≡ false → Row sh st s r false last
 empty_row e = record { mark = e; whole = λ f. absurd (false≢true f); cells = λ x b c f. absurd (false≢true f) }
 
--- a write, an update or a release: it tells the number of full rows
-accepted : {sh : Shape} {full : ℕ → Bool} {last : ℕ → List ℕ} {after : State} {s : List ℕ} (before : State) (operation : Operation)
-    → ((rows : ℕ) → FullRows rows ≡ told_by operation rows) → Held sh full last after s → full_rows after + emptied_by operation ≡ filled_by operation + full_rows before
-    → Done sh full last Accepted before operation (outcome_by before after Accepted) s
-accepted {sh = sh} {full = full} {after = after} before operation told k count = record {
-  keeps = k;
-  count = count;
-  answer = ap (λ (n : ℕ). Ok (FullRows n))
-      (same_many (is_full after) full after.shape.g (λ r _. (k.rows r).mark) ∙ ap (λ (sh : Shape). how_many full sh.g) k.shape)
-      ∙ ap Ok (told (how_many full sh.g));
-}
+-- a write, an update or a release, by its verdict: refused, all is as it was; accepted, it tells the number of full rows
+by_verdict : {st : State} {s : List ℕ} {full : ℕ → Bool} {last : ℕ → List ℕ} → Held st.shape full last st s → (operation : Operation) (v : Verdict)
+    (after : State) (store : Verdict → List ℕ) → ((r : Refusal) → store (Err r) ≡ s) → ((rows : ℕ) → FullRows rows ≡ told_by operation rows)
+    → (v ≡ Accepted → Held st.shape (full_by operation full) (written_by st.shape operation last) after (store Accepted)
+    × (full_rows after + emptied_by operation ≡ filled_by operation + full_rows st))
+    → Done st.shape (if_refused full (full_by operation full) v) (if_refused last (written_by st.shape operation last) v) v st operation
+    (outcome_by st after v) (store v)
+by_verdict {st = st} {full = full} kept operation Accepted after store same told done =
+    let k = (done refl).0 in
+    let now = full_by operation full in
+    record {
+      keeps = k;
+      count = (done refl).1;
+      answer = ap (λ (n : ℕ). Ok (FullRows n))
+          (same_many (is_full after) now after.shape.g (λ r _. (k.rows r).mark) ∙ ap (λ (sh : Shape). how_many now sh.g) k.shape)
+          ∙ ap Ok (told (how_many now st.shape.g));
+    }
+by_verdict kept operation (Err r) after store same told done = record { keeps = rw (same r) kept; answer = refl; count = omega arith }
 
 -- what is so of one row, and of each other
 each_row_lem : (row : ℕ) (F : ℕ → Bool → Type 0) → F row true → ((r : ℕ) → r ≢ row → F r false) → (r : ℕ) → F r (eqb row r)
-each_row_lem row F it others r = go (ℕ_discrete r row)
-  where
-    go : Dec (r ≡ row) → F r (eqb row r)
-    go (yes e) = rw (e, eq-eqb row row refl) it
-    go (no n) = rw (ne_eqb row r (λ e. n (sym e))) (others r n)
+each_row_lem row F it others r =
+    ⊎_elim (λ (e : r ≡ row). rw (e, eq-eqb row row refl) it) (λ n. rw (ne_eqb row r (λ e. n (sym e))) (others r n)) (cases_eq r row)
 
 module _ (st : State) (s : List ℕ) (full : ℕ → Bool) (last : ℕ → List ℕ) (kept : Held st.shape full last st s) (row : ℕ) where
   -- ---- a write
@@ -118,14 +122,6 @@ module _ (st : State) (s : List ℕ) (full : ℕ → Bool) (last : ℕ → List 
               });
         }
 
-    write_by : (v : Verdict) → write_refusal st (length s) row (length generation) ≡ v
-        → Done st.shape (if_refused full (full_by (write row generation) full) v) (if_refused last (written_by st.shape (write row generation) last) v) v st (write row generation)
-        (outcome_by st (row_toggled st row) v) (if_refused s (row_written st.shape row generation s) v)
-    write_by Accepted e =
-        let w = written_facts st (length s) row (length generation) e in
-        accepted st (write row generation) (λ rows. refl) (write_keeps w) (omega (arith, (row_filled st row w.below w.empty).count))
-    write_by (Err r) e = record { keeps = kept; answer = refl; count = omega arith }
-
   -- ---- a release
 
   release_judged : release_refusal st row ≡ verdict_in st.shape full (release row)
@@ -143,14 +139,6 @@ module _ (st : State) (s : List ℕ) (full : ℕ → Bool) (last : ℕ → List 
             (empty_row fewer.empty)
             (λ r n. record { mark = sym (fewer.others r n) ∙ (kept.rows r).mark; whole = (kept.rows r).whole; cells = (kept.rows r).cells });
       }
-
-  release_by : (v : Verdict) → release_refusal st row ≡ v
-      → Done st.shape (if_refused full (full_by (release row) full) v) (if_refused last (written_by st.shape (release row) last) v) v st (release row)
-      (outcome_by st (row_toggled st row) v) s
-  release_by Accepted e =
-      let w = released_facts st row e in
-      accepted st (release row) (λ rows. refl) (release_keeps w) (omega (arith, (row_emptied st row w.below w.full).count))
-  release_by (Err r) e = record { keeps = kept; answer = refl; count = omega arith }
 
 -- ---- an update
 
@@ -195,13 +183,6 @@ module _ (st : State) (s : List ℕ) (full : ℕ → Bool) (last : ℕ → List 
             (generation_edited st.shape (last row) x i packet w.packet.group w.packet.symbol w.bytes whole),
       )
 
-  update_by : (v : Verdict) → update_refusal st (length s) row x i (length packet) ≡ v
-      → Done st.shape (if_refused full (full_by (update row x i packet) full) v) (if_refused last (written_by st.shape (update row x i packet) last) v) v st
-      (update row x i packet) (outcome_by st st v) (if_refused s (packet_updated st.shape row x i packet s) v)
-  update_by Accepted e =
-      accepted st (update row x i packet) (λ rows. refl) (update_keeps (update_facts st (length s) row x i (length packet) e)) (omega arith)
-  update_by (Err r) e = record { keeps = kept; answer = refl; count = omega arith }
-
 -- ---- a release of a row set
 
 module _ (st : State) (s : List ℕ) (full : ℕ → Bool) (last : ℕ → List ℕ) (kept : Held st.shape full last st s) (set : ℕ) where
@@ -222,16 +203,9 @@ module _ (st : State) (s : List ℕ) (full : ℕ → Bool) (last : ℕ → List 
           → Row st.shape (rows_emptied st set) s r (full r && t) (last r)
       left r w t e = record {
         mark = e ∙ ap (λ (f : Bool). f && t) w.mark;
-        whole = λ f. w.whole ((both (full r) t).0 f).0;
-        cells = λ x b c f. w.cells x b c ((both (full r) t).0 f).0;
+        whole = λ f. w.whole (and_parts (full r) t f).0;
+        cells = λ x b c f. w.cells x b c (and_parts (full r) t f).0;
       }
-
-  set_by : (v : Verdict) → release_set_refusal st set ≡ v
-      → Done st.shape (if_refused full (full_by (release_set set) full) v) (if_refused last (written_by st.shape (release_set set) last) v) v st (release_set set)
-      (outcome_by st (rows_emptied st set) v) s
-  set_by Accepted e =
-      accepted st (release_set set) (λ rows. refl) set_keeps (emptied_count st set kept.sound (set_released_facts st set e).full ∙ omega arith)
-  set_by (Err r) e = record { keeps = kept; answer = refl; count = omega arith }
 
 -- ---- a read cycle
 
@@ -285,16 +259,27 @@ by_operation : (history : History) (memory : Memory) → Agrees memory.state.sha
     → (operation : Operation) → Follows memory.state.shape history memory operation
 by_operation history memory k (write row generation) =
     let judged = write_judged memory.state memory.store _ _ k row generation in
-    rw judged (write_by memory.state memory.store _ _ k row generation _ judged)
+    rw judged (by_verdict k (write row generation) _ (row_toggled memory.state row)
+    (if_refused memory.store (row_written memory.state.shape row generation memory.store)) (λ r. refl) (λ rows. refl)
+    (λ e. let w = written_facts memory.state _ row _ (judged ∙ e) in
+    (write_keeps memory.state memory.store _ _ k row generation w, omega (arith, (row_filled memory.state row w.below w.empty).count))))
 by_operation history memory k (update row x i packet) =
     let judged = update_judged memory.state memory.store _ _ k row x i packet in
-    rw judged (update_by memory.state memory.store _ _ k row x i packet _ judged)
+    rw judged (by_verdict k (update row x i packet) _ memory.state
+    (if_refused memory.store (packet_updated memory.state.shape row x i packet memory.store)) (λ r. refl) (λ rows. refl)
+    (λ e. (update_keeps memory.state memory.store _ _ k row x i packet (update_facts memory.state _ row x i _ (judged ∙ e)), omega arith)))
 by_operation history memory k (release row) =
     let judged = release_judged memory.state memory.store _ _ k row in
-    rw judged (release_by memory.state memory.store _ _ k row _ judged)
+    rw judged (by_verdict k (release row) _ (row_toggled memory.state row) (λ _. memory.store) (λ r. refl) (λ rows. refl)
+    (λ e. let w = released_facts memory.state row (judged ∙ e) in
+    (release_keeps memory.state memory.store _ _ k row w, omega (arith, (row_emptied memory.state row w.below w.full).count))))
 by_operation history memory k (release_set set) =
     let judged = set_judged memory.state memory.store _ _ k set in
-    rw judged (set_by memory.state memory.store _ _ k set _ judged)
+    rw judged (by_verdict k (release_set set) _ (rows_emptied memory.state set) (λ _. memory.store) (λ r. refl) (λ rows. refl)
+    (λ e. (
+      set_keeps memory.state memory.store _ _ k set,
+      emptied_count memory.state set k.sound (set_released_facts memory.state set (judged ∙ e)).full ∙ omega arith,
+    )))
 by_operation history memory k (read reads out schedule) =
     rw (read_judged memory.state memory.store _ _ k reads out schedule) (read_by memory.state memory.store _ _ k reads out schedule _)
 
@@ -302,7 +287,7 @@ by_operation history memory k (read reads out schedule) =
 follows : (sh : Shape) (history : History) (memory : Memory) → Agrees sh history memory → (operation : Operation) → Follows sh history memory operation
 follows sh history memory k operation =
     subst (λ (s : Shape). Follows s history memory operation) k.shape
-    (by_operation history memory (subst (λ (s : Shape). Agrees s history memory) (sym k.shape) k) operation)
+    (by_operation history memory (rw (← k.shape) at k) operation)
 
 returns : (sh : Shape) (history : History) (memory : Memory) → Agrees sh history memory → (reads out schedule : List ℕ)
     → (outcome_of memory (read reads out schedule)).answer ≡ Ok Served → (n : ℕ) → n < read_count reads

@@ -3,6 +3,7 @@ pub mod States
 pub mod Accepted
 pub mod Toggling
 pub mod Emptying
+pub mod Outcomes
 pub mod Singly
 pub mod Cycles
 pub mod Histories

@@ -6,9 +6,9 @@ use mathlib.Core.List.{List, [], ◌∷◌}
 use Prim.Native.Nat.{ℕ, zero, suc, ◌^◌, ◌≤◌, ◌<◌}
 use native.Mathlib.Nat.{eq-or-lt_of_le, le_of_suc-le-suc}
 use native.Mathlib.Omega.{arith}
-use native.Mathlib.Decide.{ℕ_discrete}
-use borrow.Author.Tests.{eq-eqb, ne_eqb, lt-ltb, ltb-true, ltb-false}
-use lib.Dec.{ltb}
+use Rattle.std.proofs.Math.Bool.{and-true}
+use Rattle.std.proofs.lemmas.Bool.{cases_eq, cases_lt}
+use borrow.Author.Tests.{eq-eqb, ne_eqb, lt-ltb}
 use Rattle.bits.specs.Marks.{marked, toggled}
 use Rattle.bits.proofs.Bits.{below_power}
 use Rattle.bits.proofs.Marks.{toggled_itself, toggled_other, passes_below, unmarked, bit_mark}
@@ -32,12 +32,10 @@ module _ (st : State) (set row : ℕ) (on : is_full st row ≡ true) (in_set_lem
   -- it is in neither, and every other row is as it was
   taken_out : (F : Bool → Bool → Bool → Bool → Type 0) → F true true false false → ((f m : Bool) → F f m f m)
       → (r : ℕ) → F (is_full st r) (marked set r) (is_full (row_toggled st row) r) (marked (toggled set row) r)
-  taken_out F it others r = go (ℕ_discrete r row)
-    where
-      go : Dec (r ≡ row) → F (is_full st r) (marked set r) (is_full (row_toggled st row) r) (marked (toggled set row) r)
-      go (yes e) = rw (e, toggled_itself st.full row, toggled_itself set row, on, in_set_lem) it
-      go (no n) =
-          rw (toggled_other st.full row r (λ e. n (sym e)), toggled_other set row r (λ e. n (sym e))) (others (is_full st r) (marked set r))
+  taken_out F it others r =
+      ⊎_elim (λ (e : r ≡ row). rw (e, toggled_itself st.full row, toggled_itself set row, on, in_set_lem) it)
+      (λ n. rw (toggled_other st.full row r (λ e. n (sym e)), toggled_other set row r (λ e. n (sym e))) (others (is_full st r) (marked set r)))
+      (cases_eq r row)
 
   still_full : ((r : ℕ) → marked set r ≡ true → is_full st r ≡ true)
       → (r : ℕ) → marked (toggled set row) r ≡ true → is_full (row_toggled st row) r ≡ true
@@ -61,20 +59,15 @@ times_other row r rows n = rw (ne_eqb row r (λ e. n (sym e))) (omega arith)
 
 module _ (set row : ℕ) (rows : List ℕ) (names : Listed set (row ∷ rows)) where
   first_marked : marked set row ≡ true
-  first_marked = go (marked set row) (sym (times_itself row rows) ∙ names row)
-    where
-      go : (t : Bool) → suc (times_in row rows) ≡ cond t 1 0 → t ≡ true
-      go true e = refl
-      go false e = absurd (omega arith)
+  first_marked = grind (arith, times_itself row rows, names row)
 
   rest_named : Listed (toggled set row) rows
-  rest_named r = go (ℕ_discrete r row)
-    where
-      go : Dec (r ≡ row) → times_in r rows ≡ cond (marked (toggled set row) r) 1 0
-      go (yes e) =
-          let once : suc (times_in row rows) ≡ 1 = sym (times_itself row rows) ∙ names row ∙ rw first_marked in
-          rw (e, toggled_itself set row, first_marked) (omega arith)
-      go (no n) = rw (toggled_other set row r (λ e. n (sym e))) (sym (times_other row r rows n) ∙ names r)
+  rest_named r =
+      ⊎_elim
+      (λ (e : r ≡ row). let once : suc (times_in row rows) ≡ 1 = sym (times_itself row rows) ∙ names row ∙ rw first_marked in
+      rw (e, toggled_itself set row, first_marked) (omega arith))
+      (λ n. rw (toggled_other set row r (λ e. n (sym e))) (sym (times_other row r rows n) ∙ names r))
+      (cases_eq r row)
 
 -- ---- released one by one
 
@@ -90,9 +83,7 @@ none_left st set s names =
     (λ r _. kept (is_full st r) (marked set r) (names r)))
   where
     kept : (f m : Bool) → ◌≡◌ {A = ℕ} 0 (cond m 1 0) → f ≡ (f && not m)
-    kept f true e = absurd (omega arith)
-    kept true false e = refl
-    kept false false e = refl
+    kept f m e = grind (arith, e)
 
 in_turn : (rows : List ℕ) (st : State) (set : ℕ) → Sound st → ((r : ℕ) → marked set r ≡ true → is_full st r ≡ true) → Listed set rows
     → ReleasedSingly st rows (rows_emptied st set)
@@ -110,11 +101,11 @@ in_turn (row ∷ rows) st set s full names =
 -- whatever was released was full
 were_full : (rows : List ℕ) (st after : State) → ReleasedSingly st rows after → (r : ℕ) → 1 ≤ times_in r rows → is_full st r ≡ true
 were_full [] st after h r l = absurd (omega arith)
-were_full (row ∷ rows) st after h r l = go (were_full rows (row_toggled st row) after (rw h.0 at h.1) r) (ℕ_discrete r row)
-  where
-    go : (1 ≤ times_in r rows → is_full (row_toggled st row) r ≡ true) → Dec (r ≡ row) → is_full st r ≡ true
-    go later (yes e) = rw e (released_facts st row h.0).full
-    go later (no n) = sym (toggled_other st.full row r (λ e. n (sym e))) ∙ later (omega (arith, l, times_other row r rows n))
+were_full (row ∷ rows) st after h r l =
+    ⊎_elim (λ e. rw e (released_facts st row h.0).full)
+    (λ n. sym (toggled_other st.full row r (λ e. n (sym e)))
+    ∙ were_full rows (row_toggled st row) after (rw h.0 at h.1) r (omega (arith, l, times_other row r rows n)))
+    (cases_eq r row)
 
 -- and one list of releases ends in one state
 one_end : (rows : List ℕ) (st a b : State) → ReleasedSingly st rows a → ReleasedSingly st rows b → a ≡ b
@@ -135,13 +126,9 @@ module _ (st : State) (set : ℕ) (h : set < 2 ^ most_rows) (yes : release_set_r
     shape = refl;
     full = all_full;
     empty = λ r e. emptied_rows st set whole r ∙ rw (e, all_full r e);
-    others = λ r e. emptied_rows st set whole r ∙ rw e (kept (is_full st r));
+    others = λ r e. emptied_rows st set whole r ∙ rw e (and-true (is_full st r));
     count = emptied_count st set whole (λ r _. all_full r);
   })
-    where
-      kept : (f : Bool) → (f && not false) ≡ f
-      kept true = refl
-      kept false = refl
 
   each_accepted : (rows : List ℕ) → Names set rows → ReleasedSingly st rows (release_set_outcome st set).state
   each_accepted rows names = rw yes (in_turn rows st set whole all_full (λ r. names r ∙ bit_mark set r))
@@ -195,8 +182,8 @@ each_once set (suc n) r l =
     before b once false = once
 
 pub some_list : (set : ℕ) → (rows : List ℕ) × Names set rows
-some_list set = (rows_of set set, λ r. go r (ltb r set) refl ∙ sym (bit_mark set r))
-  where
-    go : (r : ℕ) (t : Bool) → ltb r set ≡ t → times_in r (rows_of set set) ≡ cond (marked set r) 1 0
-    go r true l = each_once set set r (ltb-true r set l)
-    go r false l = let past = ltb-false r set l in rw (lt_none set set (below_power set) r past) (none_listed set set r past)
+some_list set = (
+  rows_of set set,
+  λ r. ⊎_elim (each_once set set r) (λ past. rw (lt_none set set (below_power set) r past) (none_listed set set r past)) (cases_lt r set)
+      ∙ sym (bit_mark set r),
+)

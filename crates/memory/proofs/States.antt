@@ -1,11 +1,9 @@
 -- "Not broken", as a test and in words.
 use mathlib.Core.Path.{◌≡◌}
 use mathlib.Core.Bool.{true}
-use Rattle.bits.specs.Marks.{none_from}
 use Rattle.bits.proofs.Marks.{none_marked, marked_none}
-use Rattle.std.specs.Result.{is_ok}
-use Rattle.refusals.proofs.Verdicts.{ok_accepted, both}
-use Rattle.layout.specs.Shape.{shape_refusal, InRange}
+use Rattle.std.proofs.lemmas.Bool.{and_parts}
+use Rattle.refusals.proofs.Verdicts.{ok_accepted}
 use Rattle.layout.proofs.Ranges.{range_words, words_range}
 use Rattle.memory.specs.declared.State.{State}
 use Rattle.memory.specs.State.{sound, Sound}
@@ -17,8 +15,5 @@ words_sound st w = rw (words_range st.shape w.ranges, marked_none st.full st.sha
 pub sound_words : (st : State) → sound st ≡ true → Sound st
 unfolding sound
 sound_words st e =
-    let t = (both (is_ok (shape_refusal st.shape)) (none_from st.full st.shape.g)).0 e in
+    let t = and_parts _ _ e in
     record { ranges = range_words st.shape (ok_accepted _ t.0); rows = none_marked st.full st.shape.g t.1 }
-
-pub sound_ranges : (st : State) → sound st ≡ true → InRange st.shape
-sound_ranges st e = (sound_words st e).ranges

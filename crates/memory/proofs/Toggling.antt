@@ -4,14 +4,13 @@ use mathlib.Core.Logic.{◌≢◌}
 use mathlib.Core.Bool.{true, false, not}
 use Prim.Native.Nat.{ℕ, ◌<◌}
 use native.Mathlib.Omega.{arith}
-use Rattle.bits.specs.Marks.{marked, toggled, how_many}
+use Rattle.bits.specs.Marks.{marked, how_many}
 use Rattle.bits.proofs.Marks.{toggled_itself, toggled_other, none_more, one_more}
 use Rattle.layout.specs.declared.Shape.{Shape}
 use Rattle.memory.specs.declared.State.{State}
 use Rattle.layout.specs.Shape.{most_rows}
-use Rattle.memory.specs.State.{is_full, full_rows, sound, Sound, row_toggled}
+use Rattle.memory.specs.State.{is_full, full_rows, Sound, row_toggled}
 use Rattle.memory.specs.Laws.{OneMore}
-use Rattle.memory.proofs.States.{sound_words}
 
 pub toggled_sound : (st : State) (row : ℕ) → Sound st → row < st.shape.g → Sound (row_toggled st row)
 toggled_sound st row s h = record {
@@ -22,10 +21,6 @@ toggled_sound st row s h = record {
 -- all 64 marks are those of the rows
 pub all_counted : (st : State) → Sound st → how_many (is_full st) most_rows ≡ full_rows st
 all_counted st s = none_more (is_full st) st.shape.g most_rows s.ranges.rows.1 s.rows
-
-pub toggled_counted : (st : State) (row : ℕ) → sound st ≡ true → row < st.shape.g
-    → how_many (marked (toggled st.full row)) most_rows ≡ full_rows (row_toggled st row)
-toggled_counted st row e h = all_counted (row_toggled st row) (toggled_sound st row (sound_words st e) h)
 
 -- two sets of marks that differ in a row alone
 one_row : (sh : Shape) (row fewer more : ℕ) → row < sh.g → marked fewer row ≡ false → marked more row ≡ true

@@ -1,6 +1,7 @@
 -- Set-up, write, packet update, release of a row or of a row set, and the read cycle: when each is refused, what it answers, and what state, store and buffers it leaves.
-use Rattle.std.specs.Prelude.{Bool, not, ◌||◌, List, ℕ, eqb, ltb, length}
-use Rattle.bits.specs.Marks.{marked}
+use Rattle.std.specs.Prelude.{Bool, not, ◌||◌, List, ℕ, eqb, ltb, length, Result, Ok, Err}
+use Rattle.bits.specs.Marks.{marked, how_many}
+use Rattle.refusals.specs.declared.Refusal.{Refusal}
 use Rattle.refusals.specs.declared.Reason.{Reason}
 use Rattle.refusals.specs.declared.Reason.TheVariants as reason
 use Rattle.refusals.specs.Verdict.{Verdict, check, answer_by, ◌then◌, if_refused, first_refusal}
@@ -23,6 +24,11 @@ set_up_of sh = record { state = if_refused zero_state (empty sh) (shape_refusal 
 -- its full rows.
 abbrev pub outcome_by : (before after : State) → Verdict → Outcome
 outcome_by before after verdict = record { state = if_refused before after verdict; answer = answer_by (FullRows (full_rows after)) verdict }
+
+-- The same by the state made or the refusal: the rows that are full in it are counted among all that a word has marks for.
+abbrev pub outcome_after : (before : State) → Result State Refusal → Outcome
+outcome_after before (Ok after) = record { state = after; answer = Ok (FullRows (how_many (marked after.full) most_rows)) }
+outcome_after before (Err refusal) = record { state = before; answer = Err refusal }
 
 -- Where a store is lent. 5, the state is broken. 6, the store's length is wrong.
 abbrev pub store_refusal : State → ℕ → Verdict

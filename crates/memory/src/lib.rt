@@ -1,21 +1,22 @@
 // A memory: its state, and the operations that set it up, write a row, update a packet of one, release one or several and read packets.
 #![tactic(auto)]
 
-ghost use Rattle.std.specs.Prelude.{◌≡◌, true, ◌<◌, length, Ok, Err};
-ghost use Rattle.bits.specs.Marks.{marked, how_many};
+ghost use Rattle.std.specs.Prelude.{◌≡◌, ◌<◌, length, Ok};
+ghost use Rattle.bits.specs.Marks.{marked};
 ghost use Rattle.refusals.specs.declared.Reason.TheVariants.{BrokenState};
-ghost use Rattle.refusals.specs.Verdict.{Accepted, check};
+ghost use Rattle.refusals.specs.Verdict.{check, answer_by};
 ghost use Rattle.layout.specs.Judged.{Judged};
 ghost use Rattle.layout.specs.Shape.{most_rows};
-ghost use Rattle.memory.specs.State.{sound, with_full, row_toggled};
-ghost use Rattle.memory.specs.Operations.{set_up_of, outcome_by, store_refusal, write_refusal, write_outcome, write_store, update_refusal, update_outcome, update_store, release_refusal, release_outcome, each_row, release_set_refusal, release_set_outcome, cycle_outcome, cycle_output, cycle_schedule};
+ghost use Rattle.memory.specs.State.{sound, row_toggled, rows_emptied};
+ghost use Rattle.memory.specs.Operations.{set_up_of, outcome_after, store_refusal, write_refusal, write_outcome, write_store, update_refusal, update_outcome, update_store, release_refusal, release_outcome, each_row, release_set_refusal, release_set_outcome, cycle_refusal, cycle_outcome, cycle_output, cycle_schedule};
 ghost use Rattle.cycle.specs.Served.{PlansAudited, SystematicLines};
-ghost use Rattle.memory.specs.declared.Answer.TheVariants.{FullRows, Served};
+ghost use Rattle.memory.specs.declared.Answer.TheVariants.{Served};
 ghost use Rattle.memory.specs.Demand3.{Demand3};
 ghost use Rattle.memory.specs.Laws.{TheMemory};
 
-use layout::{Geometry, Shape};
+use layout::{Geometry, PacketName, Shape, Store};
 use refusals::{Reason, Refusal, Verdict, check, refused};
+use std::fmt;
 
 // What a memory's operations are given and give back. Row r is full where it is marked in `full`.
 #[derive(Clone, Copy, Debug, Default, PartialEq, Eq)]
@@ -32,10 +33,20 @@ pub struct SetUp {
 }
 
 // What an accepted operation answers: the number of full rows, if it changes the state or the store; or that a read cycle is served.
+// No `Option<usize>`: "served" is an answer with a name of its own, and not the lack of one.
 #[derive(Clone, Copy, Debug, PartialEq, Eq)]
 pub enum Answer {
     FullRows(usize),
     Served,
+}
+
+impl fmt::Display for Answer {
+    fn fmt<W: fmt::Write>(&self, f: &mut fmt::Formatter<W>) -> fmt::Result {
+        match self {
+            Answer::FullRows(rows) => write!(f, "full rows {rows}"),
+            Answer::Served => write!(f, "served"),
+        }
+    }
 }
 
 // What an operation gives: the state, and its answer or refusal. The state comes back refused or not, as the project's rules say, so it stands beside the `Result`.
@@ -45,96 +56,29 @@ pub struct Outcome {
     pub answer: Result<Answer, Refusal>,
 }
 
+impl Outcome {
+    // What an operation gives by the state after it, or its refusal.
+    fn of(before: State, after: Result<State, Refusal>) -> Outcome
+        ensures { result ≡ outcome_after before after }
+    {
+        Outcome {
+            state: after.unwrap_or(before),
+            answer: after.map(|state| Answer::FullRows(bits::count(state.full))),
+        }
+    }
+}
+
 // Carries the laws of the memory. It does nothing.
 pub fn the_memory()
     ensures { TheMemory }
 {}
-
-// The geometry of a state that is not broken; else 5: it breaks set-up's ranges, or marks a row from G on.
-#[tactic(auto, unfolding(crate::specs::State::sound))]
-fn judge_state(state: State) -> Result<Geometry, Refusal>
-    ensures { Judged state.shape (check BrokenState 0 (sound state)) result }
-{
-    let Ok(geometry) = Geometry::of(state.shape) else {
-        return refused(Reason::BrokenState, 0);
-    };
-    check(
-        bits::none_from(state.full, state.shape.g),
-        Reason::BrokenState,
-        0,
-    )?;
-    Ok(geometry)
-}
-
-// The geometry where a store is lent, or the refusal: 5, 6.
-fn judge_store(state: State, size: usize) -> Result<Geometry, Refusal>
-    ensures { Judged state.shape (store_refusal state size) result }
-{
-    let geometry = judge_state(state)?;
-    check(size == geometry.store_size(), Reason::StoreLength, 0)?;
-    Ok(geometry)
-}
-
-// The geometry for a write, or its refusal: 5, 6, 7, 8, 10.
-#[tactic(auto, unfolding(crate::specs::Operations::write_refusal))]
-fn judge_write(state: State, size: usize, row: usize, len: usize) -> Result<Geometry, Refusal>
-    ensures { Judged state.shape (write_refusal state size row len) result }
-{
-    let geometry = judge_store(state, size)?;
-    check(row < state.shape.g, Reason::NoSuchRow, 0)?;
-    check(!bits::is_marked(state.full, row), Reason::FullRow, 0)?;
-    let whole = len == geometry.generation_size();
-    check(whole, Reason::PacketsLength, 0)?;
-    Ok(geometry)
-}
-
-// The geometry for an update, or its refusal: 5, 6, 7, 14, 15, 9, 10.
-#[tactic(auto, unfolding(crate::specs::Operations::update_refusal))]
-fn judge_update(
-    state: State,
-    size: usize,
-    row: usize,
-    x: usize,
-    i: usize,
-    len: usize,
-) -> Result<Geometry, Refusal>
-    ensures { Judged state.shape (update_refusal state size row x i len) result }
-{
-    let geometry = judge_store(state, size)?;
-    reads::judge_packet(geometry, state.full, row, x, i, 0)?;
-    check(len == state.shape.p, Reason::PacketsLength, 0)?;
-    Ok(geometry)
-}
-
-// The refusal of a release: 5, 7, 9.
-#[tactic(auto, using(crate::proofs::States::sound_ranges), unfolding(crate::specs::Operations::release_refusal))]
-fn judge_release(state: State, row: usize) -> Verdict
-    ensures { result ≡ release_refusal state row }
-{
-    judge_state(state)?;
-    check(row < state.shape.g, Reason::NoSuchRow, 0)?;
-    check(bits::is_marked(state.full, row), Reason::EmptyRow, 0)
-}
 
 // Accepted where every row of a set is in another; else refused for this reason, at the first that isn't.
 #[tactic(auto, using(crate::proofs::Emptying::refused_by_first, crate::proofs::Emptying::accepted_by_first))]
 fn judge_rows(reason: Reason, set: u64, within: u64) -> Verdict
     ensures { result ≡ each_row reason set (marked within) }
 {
-    match bits::first(bits::without(set, within)) {
-        Some(row) => refused(reason, row),
-        None => Ok(()),
-    }
-}
-
-// The refusal of a release of a row set: 5; 7 at its first row that is G or more; then 9 at its first empty row.
-#[tactic(auto, using(crate::proofs::States::sound_ranges, crate::proofs::Emptying::set_refusal_by_sets))]
-fn judge_release_set(state: State, set: u64) -> Verdict
-    ensures { result ≡ release_set_refusal state set }
-{
-    judge_state(state)?;
-    judge_rows(Reason::NoSuchRow, set, bits::below(state.shape.g))?;
-    judge_rows(Reason::EmptyRow, set, state.full)
+    bits::first(bits::without(set, within)).map_or(Ok(()), |row| refused(reason, row))
 }
 
 impl State {
@@ -144,107 +88,158 @@ impl State {
     {
         let shape = Shape { k, m, p, g };
         let verdict = layout::judge_shape(shape);
-        let state = match verdict {
-            Ok(()) => State { shape, full: 0 },
-            Err(_) => State::default(),
-        };
+        let state = verdict.map_or(State::default(), |()| State { shape, full: 0 });
         SetUp { state, verdict }
     }
 
-    // The state as it is, and a refusal.
-    fn refuse(self, refusal: Refusal) -> Outcome
-        ensures { result ≡ record { state = self; answer = Err refusal } }
+    // The geometry of a state that is not broken; else 5: it breaks set-up's ranges, or marks a row from G on.
+    #[tactic(auto, unfolding(crate::specs::State::sound))]
+    fn judge(self) -> Result<Geometry, Refusal>
+        ensures { Judged self.shape (check BrokenState 0 (sound self)) result }
     {
-        Outcome {
-            state: self,
-            answer: Err(refusal),
+        match Geometry::try_from(self.shape) {
+            Ok(geometry) if bits::none_from(self.full, self.shape.g) => Ok(geometry),
+            _ => refused(Reason::BrokenState, 0),
         }
     }
 
-    // The state with just these rows full, and how many they are.
-    fn with_full(self, full: u64) -> Outcome
-        ensures { result ≡ record { state = with_full self full; answer = Ok (FullRows (how_many (marked full) most_rows)) } }
+    // The geometry where a store of this length is lent, or the refusal: 5, 6.
+    fn judge_store(self, size: usize) -> Result<Geometry, Refusal>
+        ensures { Judged self.shape (store_refusal self size) result }
     {
-        Outcome {
-            state: State { full, ..self },
-            answer: Ok(Answer::FullRows(bits::count(full))),
+        let geometry = self.judge()?;
+        check(size == geometry.store_size(), Reason::StoreLength, 0)?;
+        Ok(geometry)
+    }
+
+    // A row's mark toggled: the state after an accepted write or release.
+    fn toggle_row(self, row: usize) -> State
+        requires { row < most_rows }
+        ensures { result ≡ row_toggled self row }
+    {
+        State {
+            full: bits::toggle(self.full, row),
+            ..self
         }
     }
 
-    // A row's mark toggled: what an accepted write or release gives.
-    #[tactic(auto, using(crate::proofs::States::sound_ranges, crate::proofs::Toggling::toggled_counted))]
-    fn toggle_row(self, row: usize) -> Outcome
-        requires { (sound self ≡ true) × (row < self.shape.g) }
-        ensures { result ≡ outcome_by self (row_toggled self row) Accepted }
+    // The state after a write of a generation to an empty row, or its refusal: 5, 6, 7, 8, 10.
+    #[tactic(auto, unfolding(crate::specs::Operations::write_refusal))]
+    fn try_write(self, store: &mut [u8], row: usize, generation: &[u8]) -> Result<State, Refusal>
+        ensures after { result ≡ answer_by (row_toggled self row) (write_refusal self (length store.old) row (length generation.now)) }
+        ensures store { store.new ≡ write_store self store.old row generation.now }
     {
-        self.with_full(bits::toggle(self.full, row))
+        let geometry = self.judge_store(store.len())?;
+        check(row < self.shape.g, Reason::NoSuchRow, 0)?;
+        check(!bits::is_marked(self.full, row), Reason::FullRow, 0)?;
+        let whole = generation.len() == geometry.generation_size();
+        check(whole, Reason::PacketsLength, 0)?;
+        rows::write_row(store, geometry, row, generation);
+        Ok(self.toggle_row(row))
     }
 
     // Writes a generation, m·K packets, to an empty row, which it makes full; or refuses: 5, 6, 7, 8, 10.
-    #[tactic(auto, using(crate::proofs::Accepted::written_facts, crate::proofs::States::sound_ranges))]
+    #[tactic(auto, using(crate::proofs::Outcomes::written))]
     pub fn write(self, store: &mut [u8], row: usize, generation: &[u8]) -> Outcome
         ensures outcome { result ≡ write_outcome self (length store.old) row (length generation.now) }
         ensures store { store.new ≡ write_store self store.old row generation.now }
     {
-        let geometry = match judge_write(self, store.len(), row, generation.len()) {
-            Ok(geometry) => geometry,
-            Err(refusal) => return self.refuse(refusal),
-        };
-        rows::write_row(store, geometry, row, generation);
-        self.toggle_row(row)
+        Outcome::of(self, self.try_write(store, row, generation))
     }
 
-    // Changes one packet of a full row (02: a patch), by its row, group and symbol: the old packet, which is the one in the symbol's systematic bank, and the
+    // The state after an update, as it was, or its refusal: 5, 6, 7, 14, 15, 9, 10.
+    #[tactic(auto, unfolding(crate::specs::Operations::update_refusal))]
+    fn try_update(self, store: &mut [u8], name: PacketName, packet: &[u8]) -> Result<State, Refusal>
+        ensures after { result ≡ answer_by self (update_refusal self (length store.old) name.row name.group name.symbol (length packet.now)) }
+        ensures store { store.new ≡ update_store self store.old name.row name.group name.symbol packet.now }
+    {
+        let geometry = self.judge_store(store.len())?;
+        reads::judge_packet(geometry, self.full, name, 0)?;
+        check(packet.len() == self.shape.p, Reason::PacketsLength, 0)?;
+        rows::update_packet(store, geometry, name, packet);
+        Ok(self)
+    }
+
+    // Changes one packet of a full row (02: a patch): the old packet, which is the one in the symbol's systematic bank, and the
     // new one are XORed into each of the 2^(K-1) banks of the group that hold the symbol, in that row. The state stays as it is. Or refuses: 5, 6, 7, 14,
     // 15, 9, 10.
-    #[tactic(auto, using(crate::proofs::Accepted::update_facts, crate::proofs::Toggling::all_counted))]
-    pub fn update(
-        self,
-        store: &mut [u8],
-        row: usize,
-        group: usize,
-        symbol: usize,
-        packet: &[u8],
-    ) -> Outcome
-        ensures outcome { result ≡ update_outcome self (length store.old) row group symbol (length packet.now) }
-        ensures store { store.new ≡ update_store self store.old row group symbol packet.now }
+    #[tactic(auto, using(crate::proofs::Outcomes::updated))]
+    pub fn update(self, store: &mut [u8], name: PacketName, packet: &[u8]) -> Outcome
+        ensures outcome { result ≡ update_outcome self (length store.old) name.row name.group name.symbol (length packet.now) }
+        ensures store { store.new ≡ update_store self store.old name.row name.group name.symbol packet.now }
     {
-        let judged = judge_update(self, store.len(), row, group, symbol, packet.len());
-        let geometry = match judged {
-            Ok(geometry) => geometry,
-            Err(refusal) => return self.refuse(refusal),
-        };
-        rows::update_packet(store, geometry, row, group, symbol, packet);
-        self.with_full(self.full)
+        Outcome::of(self, self.try_update(store, name, packet))
+    }
+
+    // The state after a release, or its refusal: 5, 7, 9.
+    #[tactic(auto, unfolding(crate::specs::Operations::release_refusal))]
+    fn try_release(self, row: usize) -> Result<State, Refusal>
+        ensures { result ≡ answer_by (row_toggled self row) (release_refusal self row) }
+    {
+        self.judge()?;
+        check(row < self.shape.g, Reason::NoSuchRow, 0)?;
+        check(bits::is_marked(self.full, row), Reason::EmptyRow, 0)?;
+        Ok(self.toggle_row(row))
     }
 
     // Makes a full row empty; or refuses: 5, 7, 9. No byte of a store changes: it is given none.
-    #[tactic(auto, using(crate::proofs::Accepted::release_toggles))]
+    #[tactic(auto, using(crate::proofs::Outcomes::released))]
     pub fn release(self, row: usize) -> Outcome
         ensures { result ≡ release_outcome self row }
     {
-        if let Err(refusal) = judge_release(self, row) {
-            return self.refuse(refusal);
-        }
-        self.toggle_row(row)
+        Outcome::of(self, self.try_release(row))
+    }
+
+    // The state after a release of a row set, or its refusal: 5; 7 at its first row that is G or more; then 9 at its first empty row.
+    #[tactic(auto, using(crate::proofs::Emptying::set_refusal_by_sets))]
+    fn try_release_set(self, set: u64) -> Result<State, Refusal>
+        ensures { result ≡ answer_by (rows_emptied self set) (release_set_refusal self set) }
+    {
+        self.judge()?;
+        judge_rows(Reason::NoSuchRow, set, bits::below(self.shape.g))?;
+        judge_rows(Reason::EmptyRow, set, self.full)?;
+        Ok(State {
+            full: bits::without(self.full, set),
+            ..self
+        })
     }
 
     // Makes every row of a set empty, row r's mark being bit r. Or refuses, and then none is: 5; 7 at its first row that is G or more; then 9 at its first
     // empty row. No byte of a store changes: it is given none.
-    #[tactic(auto, using(crate::proofs::Emptying::emptied_counted))]
+    #[tactic(auto, using(crate::proofs::Outcomes::set_released))]
     pub fn release_set(self, set: u64) -> Outcome
         ensures { result ≡ release_set_outcome self set }
     {
-        if let Err(refusal) = judge_release_set(self, set) {
-            return self.refuse(refusal);
-        }
-        self.with_full(bits::without(self.full, set))
+        Outcome::of(self, self.try_release_set(set))
+    }
+
+    // A read cycle's answer, or its refusal: 5, 6, 13, read by read 7, 14, 15, 9, then 12, 16.
+    // Output and schedule stand apart, here and below: what a struct of the two leaves in them, a clause could say only as `exit.1.0.now`.
+    #[tactic(auto, unfolding(crate::specs::Operations::cycle_refusal))]
+    fn try_read_cycle(
+        self,
+        store: &[u8],
+        reads: &[u8],
+        out: &mut [u8],
+        schedule: &mut [u8],
+    ) -> Result<Answer, Refusal>
+        ensures answer { result ≡ answer_by Served (cycle_refusal self (length store.now) reads.now (length out.old) (length schedule.old)) }
+        ensures output { out.new ≡ cycle_output self store.now reads.now out.old schedule.old }
+        ensures lines { schedule.new ≡ cycle_schedule self store.now reads.now out.old schedule.old }
+    {
+        let geometry = self.judge_store(store.len())?;
+        let store = Store {
+            geometry,
+            bytes: store,
+        };
+        cycle::run(store, self.full, reads, out, schedule)?;
+        Ok(Answer::Served)
     }
 
     // Serves a list of reads (01: asks; three bytes each: row, group, symbol) in one cycle: the packets to the output, P bytes each, and the banks
     // opened for each to the schedule (01: the sheet), two bytes each, systematic banks alone in a group where no symbol is read more than once; or
     // refuses: 5, 6, 13, read by read 7, 14, 15, 9, then 12, 16. The store is lent for reading only.
-    #[tactic(auto, using(crate::proofs::Accepted::lent))]
+    #[tactic(auto, using(crate::proofs::Cycles::demand3, crate::proofs::Cycles::audited, crate::proofs::Cycles::systematic))]
     pub fn read_cycle(
         self,
         store: &[u8],
@@ -259,16 +254,9 @@ impl State {
         ensures plans { result.answer ≡ Ok Served → PlansAudited self.shape reads.now }
         ensures systematic { result.answer ≡ Ok Served → SystematicLines reads.now schedule.new }
     {
-        let geometry = match judge_store(self, store.len()) {
-            Ok(geometry) => geometry,
-            Err(refusal) => return self.refuse(refusal),
-        };
-        if let Err(refusal) = cycle::run(geometry, self.full, store, reads, out, schedule) {
-            return self.refuse(refusal);
-        }
         Outcome {
             state: self,
-            answer: Ok(Answer::Served),
+            answer: self.try_read_cycle(store, reads, out, schedule),
         }
     }
 }

@@ -9,3 +9,4 @@ pub mod Sorting
 pub mod Planning
 pub mod Storing
 pub mod Answering
+pub mod Entries

@@ -5,12 +5,14 @@ use mathlib.Core.Bool.{true}
 use mathlib.Core.List.{List, [], ◌∷◌, map}
 use Prim.Native.Nat.{ℕ, zero, suc, ◌+◌, ◌-◌, ◌^◌, ◌≤◌, ◌<◌}
 use native.Mathlib.Nat.{le_refl}
+use native.Mathlib.Numerals.{add-one}
 use native.Mathlib.Omega.{arith, by_contra}
 use borrow.Author.Tests.{le-leb, leb-true}
 use lib.Bits.{xor_zero_r}
 use lib.Dec.{leb}
 use lib.ListN.{length, get_or, length-map}
 use lib.Pow.{pow_pos, pow-lt, le_ones}
+use Rattle.std.proofs.lemmas.List.{get_or-map}
 use Rattle.bits.proofs.Bits.{below_power}
 use Rattle.refusals.proofs.Verdicts.{both}
 use Rattle.simplex.specs.Shape.{limit_of}
@@ -19,7 +21,7 @@ use Rattle.simplex.specs.Limit.{total, reads_of, In}
 use Rattle.simplex.proofs.Requests.{length_reads}
 use Rattle.audit.specs.Plan.{Pair, no_pair, opened, Serves, start, pair_at, IsPlan}
 use Rattle.audit.specs.Audit.{RequestOf}
-use Rattle.audit.proofs.Places.{place_less, start_suc, start_all, map_at, read_at, Located, locate}
+use Rattle.audit.proofs.Places.{place_less, start_suc, start_all, read_at, Located, locate}
 use Rattle.plan.specs.Systematic.{CollisionFree, collision_free, systematic_pair, systematic_plan}
 
 -- ---- the test
@@ -38,10 +40,19 @@ free_words (c ∷ counts) e (suc i) = free_words counts ((both (leb c 1) (collis
 module _ (counts : List ℕ) where
   pub systematic_at : (i j : ℕ) → j < get_or counts i 0 → pair_at (systematic_plan counts) (start counts i + j) ≡ systematic_pair i
   systematic_at i j h =
-      map_at systematic_pair (reads_of counts) (start counts i + j) 0 no_pair (rw length_reads (place_less counts i j h)) ∙ ap systematic_pair (read_at counts i j h)
+      get_or-map systematic_pair (reads_of counts) (start counts i + j) 0 no_pair (rw length_reads (place_less counts i j h)) ∙ ap systematic_pair (read_at counts i j h)
 
   pub length_systematic : length (systematic_plan counts) ≡ total counts
   length_systematic = length-map (reads_of counts) systematic_pair ∙ length_reads counts
+
+-- where the reads of the next symbol start
+pub start_next : (counts : List ℕ) (i : ℕ) → start counts (i + 1) ≡ start counts i + get_or counts i 0
+start_next counts i = ap (start counts) (add-one i) ∙ start_suc counts i
+
+-- at most one read of each symbol
+pub start_most : (counts : List ℕ) → CollisionFree counts → (n : ℕ) → start counts n ≤ n
+start_most counts free zero = le_refl 0
+start_most counts free (suc n) = omega (arith, start_most counts free n, start_suc counts n, free n)
 
 serves : (K i : ℕ) → i < K → Serves K i (systematic_pair i)
 serves K i l = record {
@@ -80,13 +91,9 @@ module _ (K : ℕ) (counts : List ℕ) (request : RequestOf K counts) (free : Co
         omega (arith, s.place, t.place, ap (start counts) same, s.nth_less, t.nth_less, free s.symbol, free t.symbol);
   }
 
-  -- at most one read of each symbol, and K is at most 2^(K-1)
+  -- and K is at most 2^(K-1)
   pub few_reads : total counts ≤ limit_of K
-  few_reads = omega (arith, start_all counts K request.beyond, start_most K, below_power (K - 1), request.symbols.least)
-    where
-      start_most : (n : ℕ) → start counts n ≤ n
-      start_most zero = le_refl 0
-      start_most (suc n) = omega (arith, start_most n, start_suc counts n, free n)
+  few_reads = omega (arith, start_all counts K request.beyond, start_most counts free K, below_power (K - 1), request.symbols.least)
 
 -- ---- one bank for each read
 

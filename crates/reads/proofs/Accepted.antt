@@ -4,11 +4,12 @@ use mathlib.Core.Bool.{Bool, true, ◌&&◌}
 use mathlib.Core.List.{List}
 use Prim.Native.Nat.{ℕ, ◌*◌, ◌%◌, ◌≤◌, ◌<◌}
 use native.Mathlib.Nat.{le_trans}
+use Rattle.std.proofs.lemmas.Bool.{and_parts}
 use borrow.Author.Tests.{ltb-true, leb-true, eqb-true, lt-ltb, le-leb, eq-eqb}
 use lib.Dec.{eqb}
 use lib.ListN.{length}
 use Rattle.refusals.specs.Verdict.{Accepted, first_refusal}
-use Rattle.refusals.proofs.Verdicts.{checks, all_accepted, accepted_all, first_same, both}
+use Rattle.refusals.proofs.Verdicts.{checks, all_accepted, accepted_all, first_same}
 use Rattle.simplex.specs.Shape.{most_pairs}
 use Rattle.simplex.specs.Limit.{total}
 use Rattle.simplex.proofs.Tables.{limit_most}
@@ -57,7 +58,7 @@ module _ (sh : Shape) (full : ℕ → Bool) (reads : List ℕ) where
         let groups : first_refusal (group_refusal sh reads) sh.m ≡ Accepted = search checks in
         let sizes : (eqb out (read_count reads * sh.p) && eqb schedule (read_count reads * 2)) ≡ true = search checks in
         let whole : length reads % 3 ≡ 0 = search (checks, eqb-true) in
-        let fit = (both _ _).0 sizes in
+        let fit = and_parts _ _ sizes in
         record {
           whole = whole;
           named = accepted_named each;

@@ -6,12 +6,12 @@ use mathlib.Core.List.{List, [], ◌∷◌, ◌++◌}
 use Prim.Native.Nat.{ℕ, zero, suc, ◌+◌, ◌*◌, ◌≤◌, ◌<◌}
 use native.Mathlib.Nat.{eq-or-lt_of_le, le_of_suc-le-suc, not-suc-le-zero, add-zero}
 use native.Mathlib.Omega.{arith}
+use Rattle.std.proofs.lemmas.Bool.{and_parts}
 use borrow.Author.Tests.{eq-eqb, ne_eqb, eqb-true, ltb-true, ltb-false}
 use lib.Dec.{eqb, ltb}
 use lib.ListN.{length, get_or, length-append, get_or-eq_default}
 use Rattle.bits.specs.Marks.{how_many}
 use Rattle.bits.proofs.Marks.{none_passed, many_one}
-use Rattle.refusals.proofs.Verdicts.{both}
 use Rattle.simplex.specs.Shape.{most_symbols, SymbolsInRange}
 use Rattle.simplex.specs.Limit.{total}
 use Rattle.audit.specs.Audit.{RequestOf}
@@ -67,9 +67,9 @@ request K reads x range small = record { symbols = range; size = size; beyond = 
 
 -- ---- no two reads of a group are for the same symbol exactly where no count is above 1
 
-for_both : (reads : List ℕ) (x i n : ℕ) → is_for reads x i n ≡ true → (group reads n ≡ x) × (symbol reads n ≡ i)
+pub for_both : (reads : List ℕ) (x i n : ℕ) → is_for reads x i n ≡ true → (group reads n ≡ x) × (symbol reads n ≡ i)
 for_both reads x i n e =
-    let t = (both (eqb (group reads n) x) (eqb (symbol reads n) i)).0 e in (eqb-true (group reads n) x t.0, eqb-true (symbol reads n) i t.1)
+    let t = and_parts _ _ e in (eqb-true (group reads n) x t.0, eqb-true (symbol reads n) i t.1)
 
 pub at_most_once : (reads : List ℕ) (x : ℕ) → CollisionFreeIn reads x → (i : ℕ) → get_or (counts_of reads x) i 0 ≤ 1
 at_most_once reads x free i = go (ltb i most_symbols) refl

@@ -1,69 +1,52 @@
--- The reads of a list, taken three bytes at a time, and counted.
-use Rattle.std.proofs.Common.{ℕ, [], ◌≡◌, ◌+◌, ◌*◌, ◌<◌, List, ◌++◌, length, get_or, set, drop, Some, sym, ap, ◌∙◌, arith}
-use Rattle.std.specs.declared.slice.ChunksExact.{ChunksExact}
-use Rattle.std.specs.Slice.Iter.{chunks_exact_rest, chunks_exact_size, chunks_exact_steps}
-use Rattle.std.proofs.lemmas.Grind.{common_steps}
-use Rattle.std.proofs.lemmas.List.{drop-drop, drop_at}
+-- The reads of a list, taken as its parts of three bytes, and counted.
+use Rattle.std.proofs.Common.{ℕ, [], ◌≡◌, ◌+◌, ◌*◌, ◌<◌, List, get_or, set, drop, ap, ◌∙◌, arith}
+use Prim.Native.Nat.{zero, suc}
+use lib.Seq.{get_or-take, get_or-drop}
+use Rattle.std.specs.Simd.{first_chunks}
 use Rattle.bits.proofs.Marks.{many_most}
-use Rattle.simplex.specs.Shape.{most_symbols}
-use Rattle.layout.specs.Shape.{most_groups}
-use Rattle.reads.specs.Reads.{read_count, field, group, symbol, is_for, count_of}
+use Rattle.layout.specs.declared.PacketName.{PacketName}
+use Rattle.reads.specs.Reads.{read_count, row, group, symbol, is_for, count_of}
 use Rattle.reads.specs.Parts.{InGrid}
 use Rattle.reads.proofs.Grids.{counts_until, all_until, own_group, own_count, one_more}
 
--- n reads are taken: what is left of the list starts after them.
-pub record Taken (reads : List ℕ) (left : ChunksExact ℕ) (n : ℕ) : Type 0 where
-  pub three : chunks_exact_size left ≡ 3
-  pub rest : chunks_exact_rest left ≡ drop (n * 3) reads
+byte_at : (k : ℕ) (reads : List ℕ) (n f : ℕ) (d : List ℕ) → n < k → f < 3 → get_or (get_or (first_chunks 3 k reads) n d) f 0 ≡ get_or reads (n * 3 + f) 0
+byte_at zero reads n f d l h = absurd (omega arith)
+byte_at (suc k) reads zero f d l h = get_or-take 3 reads f 0 h ∙ ap (λ (i : ℕ). get_or reads i 0) (omega arith)
+byte_at (suc k) reads (suc n) f d l h =
+    byte_at k (drop 3 reads) n f d (omega arith) h ∙ get_or-drop 3 reads (n * 3 + f) 0 ∙ ap (λ (i : ℕ). get_or reads i 0) (omega arith)
 
--- And they are counted.
-pub record Counted (reads : List ℕ) (left : ChunksExact ℕ) (counts : List (List ℕ)) (n : ℕ) : Type 0 where
-  pub taken : Taken reads left n
-  pub all : counts ≡ all_until reads n
+pub row_at : (k : ℕ) (reads : List ℕ) (n : ℕ) (d : List ℕ) → n < k → get_or (get_or (first_chunks 3 k reads) n d) 0 0 ≡ row reads n
+row_at k reads n d l = byte_at k reads n 0 d l (omega arith)
 
--- one more: its bytes are those of read n
-module _ (reads : List ℕ) (left next : ChunksExact ℕ) (n : ℕ) (read : List ℕ) (t : Taken reads left n)
-    (cut : chunks_exact_rest left ≡ read ++ chunks_exact_rest next) (three : length read ≡ 3) where
-  start : drop (n * 3) reads ≡ read ++ chunks_exact_rest next
-  start = sym t.rest ∙ cut
+pub group_at : (k : ℕ) (reads : List ℕ) (n : ℕ) (d : List ℕ) → n < k → get_or (get_or (first_chunks 3 k reads) n d) 1 0 ≡ group reads n
+group_at k reads n d l = byte_at k reads n 1 d l (omega arith)
 
-  more : chunks_exact_size next ≡ 3 → Taken reads next (n + 1)
-  more s =
-      let past : drop 3 (drop (n * 3) reads) ≡ chunks_exact_rest next = ap (drop 3) start ∙ drop_at read (chunks_exact_rest next) 3 three in
-      record { three = s; rest = sym past ∙ drop-drop 3 (n * 3) reads ∙ ap (λ (m : ℕ). drop m reads) (omega arith) }
+pub symbol_at : (k : ℕ) (reads : List ℕ) (n : ℕ) (d : List ℕ) → n < k → get_or (get_or (first_chunks 3 k reads) n d) 2 0 ≡ symbol reads n
+symbol_at k reads n d l = byte_at k reads n 2 d l (omega arith)
 
-  below : n < read_count reads
-  below = let e = ap length start in grind (arith, common_steps)
+-- The packet that a part names, and the one that read n names.
+abbrev pub name_in : List ℕ → PacketName
+name_in part = record { row = get_or part 0 0; group = get_or part 1 0; symbol = get_or part 2 0 }
 
-  field_at : (f : ℕ) → f < 3 → get_or read f 0 ≡ field reads n f
-  field_at f l = let e = start in grind (arith, common_steps)
+abbrev pub name_at : List ℕ → ℕ → PacketName
+name_at reads n = record { row = row reads n; group = group reads n; symbol = symbol reads n }
 
--- One turn of the count: that of symbol b of group a grows by one.
-pub record Turn (reads : List ℕ) (next : ChunksExact ℕ) (counts : List (List ℕ)) (n a b : ℕ) : Type 0 where
-  pub group_there : a < most_groups
-  pub symbol_there : b < most_symbols
-  pub few : get_or (get_or counts a []) b 0 < read_count reads
-  pub counted : Counted reads next (set counts a (set (get_or counts a []) b (get_or (get_or counts a []) b 0 + 1))) (n + 1)
+pub taken : (reads : List ℕ) (parts : List (List ℕ)) (n : ℕ) (d : List ℕ) (name : PacketName) → parts ≡ first_chunks 3 (read_count reads) reads → n < read_count reads
+    → name ≡ name_in (get_or parts n d) → name ≡ name_at reads n
+taken reads parts n d name cut l is = let k = read_count reads in is ∙ rw (cut, row_at k reads n d l, group_at k reads n d l, symbol_at k reads n d l)
 
-pub turn : {reads : List ℕ} {counts : List (List ℕ)} {left : ChunksExact ℕ} {n a b : ℕ} (next : ChunksExact ℕ) (read : _) → InGrid reads
-    → Counted reads left counts n → chunks_exact_steps left (Some read) next → a ≡ get_or read.now 1 0 → b ≡ get_or read.now 2 0
-    → Turn reads next counts n a b
-turn {reads} {counts} {left} {n} {a} {b} next read small c step first second =
-    let cut = step.1.0 in
-    let three = step.1.1 ∙ c.taken.three in
-    let less = below reads left next n read.now c.taken cut three in
-    let s = small n less in
-    let at = field_at reads left next n read.now c.taken cut three in
-    let a_is : a ≡ group reads n = first ∙ at 1 (omega arith) in
-    let b_is : b ≡ symbol reads n = second ∙ at 2 (omega arith) in
-    let own : get_or counts a [] ≡ counts_until reads n (group reads n) = rw (a_is, c.all) (own_group reads n s.0 s.1 []) in
-    let count : get_or (get_or counts a []) b 0 ≡ count_of reads (group reads n) (symbol reads n) n = rw (own, b_is) (own_count reads n s.0 s.1 0) in
-    record {
-      group_there = rw a_is s.0;
-      symbol_there = rw b_is s.1;
-      few = omega (arith, count, many_most (is_for reads (group reads n) (symbol reads n)) n);
-      counted = record {
-        taken = more reads left next n read.now c.taken cut three (step.0 ∙ c.taken.three);
-        all = rw (count, own, a_is, b_is, c.all) (one_more reads n s.0 s.1);
-      };
-    }
+-- One turn of the count: that of the packet's symbol grows by one.
+module _ (reads : List ℕ) (counts parts : List (List ℕ)) (n : ℕ) (d : List ℕ) (name : PacketName) (small : InGrid reads) (all : counts ≡ all_until reads n)
+    (cut : parts ≡ first_chunks 3 (read_count reads) reads) (l : n < read_count reads)
+    (is : name ≡ name_in (get_or parts n d)) where
+  own : get_or counts (group reads n) [] ≡ counts_until reads n (group reads n)
+  own = let s = small n l in rw all (own_group reads n s.0 s.1 [])
+
+  count : get_or (get_or counts (group reads n) []) (symbol reads n) 0 ≡ count_of reads (group reads n) (symbol reads n) n
+  count = let s = small n l in rw own (own_count reads n s.0 s.1 0)
+
+  pub few : get_or (get_or counts name.group []) name.symbol 0 < read_count reads
+  few = rw (taken reads parts n d name cut l is) (omega (arith, count, many_most (is_for reads (group reads n) (symbol reads n)) n))
+
+  pub counted : set counts name.group (set (get_or counts name.group []) name.symbol (get_or (get_or counts name.group []) name.symbol 0 + 1)) ≡ all_until reads (n + 1)
+  counted = let s = small n l in rw (taken reads parts n d name cut l is) (rw (count, own, all) (one_more reads n s.0 s.1))

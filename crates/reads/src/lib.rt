@@ -1,17 +1,17 @@
 // A list of reads: judged read by read, and counted by group and symbol.
 #![tactic(auto)]
 
-ghost use Rattle.std.specs.Prelude.{◌≡◌, ◌&&◌, ◌*◌, ◌≤◌, ◌<◌, eqb};
+ghost use Rattle.std.specs.Prelude.{◌≡◌, ◌&&◌, ◌*◌, ◌≤◌, eqb};
 ghost use Rattle.bits.specs.Marks.{marked};
 ghost use Rattle.refusals.specs.Verdict.{first_refusal};
 ghost use Rattle.table.specs.Grouped.{list_of};
 ghost use Rattle.layout.specs.Shape.{most_groups};
-ghost use Rattle.reads.specs.Reads.{read_count, field, counts_of};
+ghost use Rattle.reads.specs.Reads.{read_count, counts_of};
 ghost use Rattle.reads.specs.Refusals.{packet_refusal, read_refusal};
 ghost use Rattle.reads.specs.Laws.{TheReads};
 ghost use Rattle.reads.specs.Parts.{InGrid};
 
-use layout::{Geometry, MOST_GROUPS};
+use layout::{Geometry, MOST_GROUPS, PacketName};
 use refusals::{Reason, Verdict, check};
 use simplex::MOST_SYMBOLS;
 
@@ -20,63 +20,40 @@ pub fn the_reads()
     ensures { TheReads }
 {}
 
-// Byte f of read n: its row, its group or its symbol.
-pub fn field_of(reads: &[u8], n: usize, f: usize) -> usize
-    requires { (n < read_count reads.now) × (f < 3) }
-    ensures { (result ≡ field reads.now n f) × (result < 256) }
-{
-    usize::from(reads[n * 3 + f])
-}
-
-// The refusal of a packet named by its row, group and symbol: 7, 14, 15, 9, with this place.
-pub fn judge_packet(
-    geometry: Geometry,
-    full: u64,
-    row: usize,
-    x: usize,
-    i: usize,
-    place: usize,
-) -> Verdict
-    ensures { result ≡ packet_refusal geometry.shape (marked full) place row x i }
+// The refusal of a packet: 7, 14, 15, 9, with this place.
+// Geometry and full rows stand apart: a `Geometry` is of a shape alone, and which rows are full is a state's.
+pub fn judge_packet(geometry: Geometry, full: u64, name: PacketName, place: usize) -> Verdict
+    ensures { result ≡ packet_refusal geometry.shape (marked full) place name.row name.group name.symbol }
 {
     let shape = geometry.shape;
-    check(row < shape.g, Reason::NoSuchRow, place)?;
-    check(x < shape.m, Reason::NoSuchGroup, place)?;
-    check(i < shape.k, Reason::NoSuchSymbol, place)?;
-    check(bits::is_marked(full, row), Reason::EmptyRow, place)
+    check(name.row < shape.g, Reason::NoSuchRow, place)?;
+    check(name.group < shape.m, Reason::NoSuchGroup, place)?;
+    check(name.symbol < shape.k, Reason::NoSuchSymbol, place)?;
+    check(bits::is_marked(full, name.row), Reason::EmptyRow, place)
 }
 
-// The refusal of read n by itself: 7, 14, 15, 9.
-pub fn judge_read(geometry: Geometry, full: u64, reads: &[u8], n: usize) -> Verdict
-    requires { n < read_count reads.now }
-    ensures { result ≡ read_refusal geometry.shape (marked full) reads.now n }
-{
-    let row = field_of(reads, n, 0);
-    let group = field_of(reads, n, 1);
-    let symbol = field_of(reads, n, 2);
-    judge_packet(geometry, full, row, group, symbol, n)
-}
-
-// The first refusal of a read.
-#[tactic(auto, using(refusals::proofs::Verdicts::stops))]
+// The first refusal of a read: 7, 14, 15, 9, its place being the read's.
+// A list comes as its bytes, here and to the functions below and above, and each cuts it in reads: any bytes may come in, and the definitions are of them.
 pub fn judge_reads(geometry: Geometry, full: u64, reads: &[u8]) -> Verdict
     ensures { result ≡ first_refusal (read_refusal geometry.shape (marked full) reads.now) (read_count reads.now) }
 {
-    for n in 0..reads.len() / 3 {
-        judge_read(geometry, full, reads, n)?;
+    let (list, _) = reads.as_chunks::<3>();
+    for (n, name) in list.iter().enumerate() {
+        judge_packet(geometry, full, PacketName::from(*name), n)?;
     }
     Ok(())
 }
 
 // How often each symbol of each group is read, in whichever rows.
+#[tactic(auto, using(crate::proofs::Taking::group_at, crate::proofs::Taking::symbol_at, crate::proofs::Taking::few, crate::proofs::Taking::counted))]
 pub fn count_reads(reads: &[u8]) -> [[usize; MOST_SYMBOLS]; MOST_GROUPS]
     requires { InGrid reads.now }
     ensures { result ≡ list_of (counts_of reads.now) 0 most_groups }
 {
     let mut counts = [[0; MOST_SYMBOLS]; MOST_GROUPS];
-    for read in reads.chunks_exact(3) {
-        let group = usize::from(read[1]);
-        let symbol = usize::from(read[2]);
+    let (list, _) = reads.as_chunks::<3>();
+    for read in list {
+        let PacketName { group, symbol, .. } = PacketName::from(*read);
         counts[group][symbol] += 1;
     }
     counts

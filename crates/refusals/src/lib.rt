@@ -4,12 +4,13 @@
 ghost use Rattle.std.specs.Prelude.{◌≡◌};
 ghost use Rattle.refusals.specs.Verdict.{between, number_of, refused, check};
 
+use std::error::Error;
 use std::fmt;
 
 // Why an operation says no, in the order of the refusals' numbers, from 1 to 20.
 #[derive(Clone, Copy, Debug, PartialEq, Eq)]
 pub enum Reason {
-    SymbolsOutOfRange,
+    SymbolsOutOfRange = 1,
     GroupsOutOfRange,
     PacketSizeOutOfRange,
     RowsOutOfRange,
@@ -46,28 +47,8 @@ impl Reason {
     pub fn number(self) -> u8
         ensures { result ≡ number_of self }
     {
-        match self {
-            Reason::SymbolsOutOfRange => 1,
-            Reason::GroupsOutOfRange => 2,
-            Reason::PacketSizeOutOfRange => 3,
-            Reason::RowsOutOfRange => 4,
-            Reason::BrokenState => 5,
-            Reason::StoreLength => 6,
-            Reason::NoSuchRow => 7,
-            Reason::FullRow => 8,
-            Reason::EmptyRow => 9,
-            Reason::PacketsLength => 10,
-            Reason::ForeignCount => 11,
-            Reason::TooManyReads => 12,
-            Reason::ListLength => 13,
-            Reason::NoSuchGroup => 14,
-            Reason::NoSuchSymbol => 15,
-            Reason::BufferLengths => 16,
-            Reason::NoHexadecimal => 17,
-            Reason::UnknownFrame => 18,
-            Reason::NoMemory => 19,
-            Reason::StoreTooLarge => 20,
-        }
+        // `as` gives an enum's number, and no `From` does.
+        self as u8
     }
 }
 
@@ -76,6 +57,8 @@ impl fmt::Display for Refusal {
         write!(f, "refused {}, place {}", self.reason.number(), self.place)
     }
 }
+
+impl Error for Refusal {}
 
 // Refused for this reason, at this place.
 pub fn refused<T>(reason: Reason, place: usize) -> Result<T, Refusal>
@@ -99,5 +82,5 @@ pub fn check(passed: bool, reason: Reason, place: usize) -> Verdict
 pub fn is_between(low: usize, high: usize, n: usize) -> bool
     ensures { result ≡ between low high n }
 {
-    low <= n && n <= high
+    (low..=high).contains(&n)
 }

@@ -22,9 +22,9 @@ some_banks sh w = let l : 2 ^ 2 ≤ 2 ^ sh.k = pow_mono w.symbols.least in omega
 step_fits : (sh : Shape) → InRange sh → sh.p ≤ sh.g * sh.p
 step_fits sh w = rw (one-mul sh.p) at (mul-le-mul_right sh.p w.rows.0)
 
-last_fits : (sh : Shape) (at x row : ℕ) → at ≡ offset sh x 1 row → InRange sh → x < sh.m → row < sh.g → (size : ℕ) → size ≡ store_size sh
-    → spaced at (sh.g * sh.p) (banks sh) + sh.p ≤ size
-last_fits sh at x row e w group below size whole = rw (e, whole, ← offset_spaced sh x (banks sh) row some) (inside sh x (banks sh) row last_bank)
+last_fits : (sh : Shape) (x row : ℕ) → InRange sh → x < sh.m → row < sh.g → (size : ℕ) → size ≡ store_size sh
+    → spaced (offset sh x 1 row) (sh.g * sh.p) (banks sh) + sh.p ≤ size
+last_fits sh x row w group below size whole = rw (whole, ← offset_spaced sh x (banks sh) row some) (inside sh x (banks sh) row last_bank)
   where
     some : 1 ≤ banks sh
     some = omega (arith, some_banks sh w)
@@ -32,22 +32,22 @@ last_fits sh at x row e w group below size whole = rw (e, whole, ← offset_spac
     last_bank : CellOf sh x (banks sh) row
     last_bank = record { group = group; first = some; last = omega arith; row = below }
 
-pub fillable : (sh : Shape) (at x row : ℕ) → at ≡ offset sh x 1 row → InRange sh → x < sh.m → row < sh.g
-    → (packets s : List ℕ) → length packets ≡ sh.k * sh.p → length s ≡ store_size sh → Fillable sh.k sh.p at (sh.g * sh.p) packets s
-fillable sh at x row e w group below packets s size whole = record {
+pub fillable : (sh : Shape) (x row : ℕ) → InRange sh → x < sh.m → row < sh.g → (packets s : List ℕ) → length packets ≡ sh.k * sh.p
+    → length s ≡ store_size sh → Fillable sh.k sh.p (offset sh x 1 row) (sh.g * sh.p) packets s
+fillable sh x row w group below packets s size whole = record {
   symbols = w.symbols;
   packets_size = size;
   step_size = step_fits sh w;
-  last = last_fits sh at x row e w group below (length s) whole;
+  last = last_fits sh x row w group below (length s) whole;
 }
 
-pub updatable : (sh : Shape) (at x i row : ℕ) → at ≡ offset sh x 1 row → InRange sh → PacketOf sh row x i
-    → (packet s : List ℕ) → length s ≡ store_size sh → length packet ≡ sh.p → Updatable sh.k (length packet) i at (sh.g * sh.p) s
-updatable sh at x i row e w u packet s whole size = rw size (record {
+pub updatable : (sh : Shape) (x i row : ℕ) → InRange sh → PacketOf sh row x i → (packet s : List ℕ) → length s ≡ store_size sh
+    → length packet ≡ sh.p → Updatable sh.k (length packet) i (offset sh x 1 row) (sh.g * sh.p) s
+updatable sh x i row w u packet s whole size = rw size (record {
   symbols = w.symbols;
   symbol = u.symbol;
   step_size = step_fits sh w;
-  last = last_fits sh at x row e w u.group u.row (length s) whole;
+  last = last_fits sh x row w u.group u.row (length s) whole;
 })
 
 -- ---- a generation group by group

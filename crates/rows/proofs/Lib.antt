@@ -2,3 +2,4 @@
 pub mod Writing
 pub mod Groups
 pub mod Updating
+pub mod Chunks

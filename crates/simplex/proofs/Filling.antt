@@ -110,11 +110,6 @@ spaced_add at step t n =
     let m : (suc t + n) * step ≡ t * step + step + n * step = add-mul (suc t) n step ∙ ap (λ (x : ℕ). x + n * step) (suc-mul t step) in
     ap (λ (x : ℕ). at + x * step) e ∙ omega arith
 
-pub spaced_twice : (at step t : ℕ) → spaced at step (suc t + t) ≡ at + t * step + t * step
-spaced_twice at step t =
-    let e : suc t + t - 1 ≡ t + t = omega arith in
-    ap (λ (x : ℕ). at + x * step) e ∙ omega (arith, add-mul t t step)
-
 pub spaced_room : (P at step n size : ℕ) → P ≤ step → spaced at step n + P ≤ size → Room P (spaced at step) n size
 spaced_room P at step n size q fits = record { within = within; rising = rising }
   where

@@ -5,7 +5,7 @@ use mathlib.Core.List.{List, ◌∷◌, ◌++◌}
 use Prim.Native.Nat.{ℕ, ◌*◌, ◌≤◌, min}
 use native.Mathlib.Omega.{arith}
 use lib.ListN.{length, take, drop, length-replicate}
-use Rattle.std.proofs.lemmas.List.{take-replicate}
+use Rattle.std.proofs.lemmas.List.{take-replicate, length-take}
 use lib.Seq.{take_at}
 use borrow.Table.Elements.{take-le}
 use Rattle.cells.specs.Xor.{zeros}
@@ -13,31 +13,33 @@ use Rattle.reads.specs.Reads.{read_count}
 use Rattle.layout.specs.Shape.{store_size}
 use Rattle.memory.specs.declared.State.{State}
 use Rattle.memory.specs.declared.Outcome.{Outcome}
-use Rattle.memory.specs.Operations.{cycle_outcome, cycle_output}
+use Rattle.memory.specs.Operations.{cycle_refusal, cycle_outcome, cycle_output}
 use Rattle.memory.specs.History.{outcome_of, packets_by}
 use Rattle.frames.specs.Frames.{answer_byte, said}
 use Rattle.frames.specs.Printing.{Prints}
 use Rattle.steps.specs.declared.Reply.{Reply}
-use Rattle.steps.specs.Session.{Session, Running, most_store, memory_of, operation_done, cycle_of}
+use Rattle.steps.specs.Session.{Running, most_store, memory_of, operation_done, cycle_of}
 use Rattle.steps.specs.Steps.{Gives}
 use Rattle.steps.specs.Parts.{lent_size}
 use Rattle.steps.proofs.Rooms.{said_of, same_said}
-use Rattle.steps.proofs.Done.{running, same_store, lends, five_read}
+use Rattle.steps.proofs.Done.{running, same_store, lends}
 
 -- ---- the buffers
 
--- a buffer of zeros whose front is lent, where a list as long comes back in its place: the front was zeros, and is that list, and is no longer than the buffer
+-- a buffer of zeros whose front is lent, where a list as long comes back in its place: the front was zeros, and is that list
 pub record Filled (n size : ℕ) (packets : List ℕ) : Type 0 where
   pub lent : take size (zeros n) ≡ zeros size
   pub front : take size (packets ++ drop size (zeros n)) ≡ packets
-  pub room : length (take size (packets ++ drop size (zeros n))) ≤ n
 
 pub filled : (n size all : ℕ) (packets : List ℕ) → size ≡ min all n → length packets ≡ length (take size (zeros n)) → Filled n size packets
 filled n size all packets h e =
     let z = take-replicate size n 0 (omega arith) in
     let l : length packets ≡ size = e ∙ ap length z ∙ length-replicate size 0 in
-    let f : take size (packets ++ drop size (zeros n)) ≡ packets = take_at packets (drop size (zeros n)) size l in
-    record { lent = z; front = f; room = rw f (omega (arith, l, h)) }
+    record { lent = z; front = take_at packets (drop size (zeros n)) size l }
+
+-- the front of a list is no longer than that
+pub within : (size n : ℕ) (l : List ℕ) → size ≤ n → length (take size l) ≤ n
+within size n l h = rw length-take (omega arith)
 
 -- ---- frame 04
 
@@ -45,12 +47,10 @@ module _ (store reads : List ℕ) (st : State) (front size : ℕ) (fits : length
     (room : size ≡ min (read_count reads * st.shape.p) most_store) where
   -- neither the room that there is for them nor the part of the store that is lent changes it: a broken state is refused whatever they are
   same_cycle : said_of st (take front store) reads size ≡ said_of st (memory_of st store).store reads (read_count reads * st.shape.p)
+  unfolding cycle_refusal
   same_cycle =
       ⊎_elim
-      (λ b.
-      let here = five_read st (length (take front store)) reads size (read_count reads * 2) b in
-      let there = five_read st (length (memory_of st store).store) reads (read_count reads * st.shape.p) (read_count reads * 2) b in
-      rw (here, there))
+      (λ b. rw b)
       (λ l. rw l.front (same_said st (memory_of st store).store reads size (omega (arith, take-le (store_size st.shape) store)) room))
       (lends st store front fits e)
 
@@ -64,7 +64,6 @@ module _ (store reads : List ℕ) (st : State) (front size : ℕ) (fits : length
         let did : o ≡ cycle_outcome st (length (take front store)) reads size (read_count reads * 2) = simp (zp, zl, length-replicate) at done in
         rw (did, filled, zp, zl) (simp length-replicate (simp length-replicate at same_cycle))
 
-    pub cycle_done : {session : Session} {out left : List ℕ} {r : Reply} → session ≡ Running st → r.session ≡ Running o.state
-        → Prints (answer_byte 4 ∷ said packets o.answer) out r.len left → Gives (operation_done session store 4 (cycle_of reads)) out r store left
-    cycle_done {session} is goes printed =
-        running session store 4 (cycle_of reads) st o is (rw done) (same_store st store) goes (rw cycles at printed)
+    pub cycle_done : {out left : List ℕ} {r : Reply} → r.session ≡ Running o.state → Prints (answer_byte 4 ∷ said packets o.answer) out r.len left
+        → Gives (operation_done (Running st) store 4 (cycle_of reads)) out r store left
+    cycle_done goes printed = running store 4 (cycle_of reads) st o (rw done) (same_store st store) goes (rw cycles at printed)

@@ -7,42 +7,32 @@ use Prim.Native.Nat.{ℕ, min}
 use lib.ListN.{length, take, drop, take-append-drop}
 use Rattle.std.specs.Prelude.{Err}
 use Rattle.refusals.specs.declared.Refusal.{Refusal}
-use Rattle.refusals.specs.declared.Reason.TheVariants as reason
-use Rattle.refusals.specs.Verdict.{Verdict, Accepted, refused}
+use Rattle.refusals.specs.Verdict.{Verdict, Accepted}
 use Rattle.layout.specs.declared.Shape.{Shape}
 use Rattle.layout.specs.Shape.{shape_refusal, store_size}
 use Rattle.memory.specs.declared.State.{State}
 use Rattle.memory.specs.declared.Outcome.{Outcome}
 use Rattle.memory.specs.State.{sound}
-use Rattle.memory.specs.Operations.{write_refusal, write_outcome, write_store, cycle_refusal}
+use Rattle.memory.specs.Operations.{write_refusal, write_outcome, write_store}
 use Rattle.memory.specs.History.{Operation, write, outcome_of, store_after, packets_by}
 use Rattle.frames.specs.Frames.{answer_byte, said}
 use Rattle.frames.specs.Printing.{Prints}
 use Rattle.steps.specs.declared.Reply.{Reply}
-use Rattle.steps.specs.Session.{Session, Fresh, Running, no_memory, most_store, After, refused_with, unless_refused, memory_of, behind, operation_done}
+use Rattle.steps.specs.Session.{Running, most_store, memory_of, behind, operation_done}
 use Rattle.steps.specs.Steps.{Gives}
 use Rattle.steps.specs.Parts.{lent_size}
 use Rattle.std.proofs.lemmas.List.{take_min, drop_min}
 
--- a set-up, or a line, by its verdict
-pub same_verdict : (v w : Verdict) (session : Session) (store : List ℕ) (first : ℕ) (after : After) {out : List ℕ} {r : Reply} {kept left : List ℕ}
-    → v ≡ w → Gives (unless_refused v session store first after) out r kept left → Gives (unless_refused w session store first after) out r kept left
-same_verdict v w session store first after e g = rw e at g
+-- ---- an operation
 
--- ---- an operation, before any accepted 01 and with a memory
-
-module _ (session : Session) (store : List ℕ) (kind : ℕ) (operation : Shape → Operation) where
-  pub fresh : {out : List ℕ} {r : Reply} {kept left : List ℕ} → session ≡ Fresh
-      → Gives (refused_with session store (answer_byte kind) no_memory) out r kept left → Gives (operation_done session store kind operation) out r kept left
-  fresh e g = rw e (rw e at g)
-
-  pub running : (st : State) (o : Outcome) {kept out left : List ℕ} {r : Reply}
-      → let memory = memory_of st store in
-      let op = operation st.shape in
-      session ≡ Running st → o.state ≡ (outcome_of memory op).state → kept ≡ store_after memory op ++ behind st store → r.session ≡ Running o.state
-      → Prints (answer_byte kind ∷ said (packets_by memory op) (outcome_of memory op).answer) out r.len left
-      → Gives (operation_done session store kind operation) out r kept left
-  running st o e did holds goes line = rw e (record { session = goes ∙ ap (λ (x : State). Running x) did; store = holds; line = line })
+-- what a memory did is what the session has then done
+pub running : (store : List ℕ) (kind : ℕ) (operation : Shape → Operation) (st : State) (o : Outcome) {kept out left : List ℕ} {r : Reply}
+    → let memory = memory_of st store in
+    let op = operation st.shape in
+    o.state ≡ (outcome_of memory op).state → kept ≡ store_after memory op ++ behind st store → r.session ≡ Running o.state
+    → Prints (answer_byte kind ∷ said (packets_by memory op) (outcome_of memory op).answer) out r.len left
+    → Gives (operation_done (Running st) store kind operation) out r kept left
+running store kind operation st o did holds goes line = record { session = goes ∙ ap (λ (x : State). Running x) did; store = holds; line = line }
 
 -- the store where an operation keeps it
 pub same_store : (st : State) (store : List ℕ) → store ≡ (memory_of st store).store ++ behind st store
@@ -54,14 +44,6 @@ same_store st store = sym (take-append-drop (store_size st.shape) store)
 broken : (st : State) (r : Refusal) → shape_refusal st.shape ≡ Err r → sound st ≡ false
 unfolding sound
 broken st r e = rw e
-
-five : (st : State) (size row len : ℕ) → sound st ≡ false → write_refusal st size row len ≡ refused reason.BrokenState 0
-unfolding write_refusal
-five st size row len e = rw e
-
-pub five_read : (st : State) (size : ℕ) (reads : List ℕ) (out schedule : ℕ) → sound st ≡ false → cycle_refusal st size reads out schedule ≡ refused reason.BrokenState 0
-unfolding cycle_refusal
-five_read st size reads out schedule e = rw e
 
 -- what is lent is the memory's part, unless the state is broken
 pub record Lent (st : State) (store : List ℕ) (size : ℕ) : Type 0 where
@@ -84,11 +66,9 @@ pub writes : (st : State) (store : List ℕ) (size row : ℕ) (packets : List �
     → let memory = memory_of st store in
     (write_outcome st (length (take size store)) row (length packets) ≡ outcome_of memory (write row packets))
     × (write_store st (take size store) row packets ++ drop size store ≡ store_after memory (write row packets) ++ behind st store)
+unfolding write_refusal
 writes st store size row packets fits e =
     ⊎_elim
-    (λ b.
-    let here = five st (length (take size store)) row (length packets) b in
-    let there = five st (length (memory_of st store).store) row (length packets) b in
-    (rw (here, there), rw (here, there, take-append-drop size store) (same_store st store)))
+    (λ b. (rw b, rw b (take-append-drop size store ∙ same_store st store)))
     (λ l. rw (l.front, l.rest) (refl, refl))
     (lends st store size fits e)

@@ -11,7 +11,8 @@ use Rattle.refusals.specs.declared.Refusal.{Refusal}
 use Rattle.refusals.specs.declared.Reason.{Reason}
 use Rattle.refusals.specs.Verdict.{Verdict, Accepted, answer_by, check, ◌then◌, first_refusal}
 use Rattle.refusals.proofs.Verdicts.{checks}
-use Rattle.simplex.specs.Shape.{limit_of}
+use Rattle.simplex.specs.declared.Group.{Group}
+use Rattle.simplex.specs.Shape.{group_of}
 use Rattle.simplex.proofs.Tables.{limit_most}
 use Rattle.layout.specs.declared.Shape.{Shape}
 use Rattle.layout.specs.Shape.{shape_refusal, InRange, banks}
@@ -108,7 +109,8 @@ unfolding set_up_refusal
 set_up_range sh e = let fine : shape_refusal sh ≡ Accepted = search checks in range_words sh fine
 
 -- so the total of banks, and the most reads of a group, are bytes
-pub set_up_fits : (sh : Shape) → set_up_refusal sh ≡ Accepted → (sh.m * banks sh < 256) × (limit_of sh.k < 256)
-set_up_fits sh e =
-    let w = set_up_range sh e in
-    (omega (arith, all_banks_lem sh sh.m w w.groups.1), omega (arith, limit_most sh.k w.symbols.most))
+pub set_up_banks : (sh : Shape) → set_up_refusal sh ≡ Accepted → sh.m * banks sh < 256
+set_up_banks sh e = let w = set_up_range sh e in omega (arith, all_banks_lem sh sh.m w w.groups.1)
+
+pub set_up_limit : (sh : Shape) (group : Group) → set_up_refusal sh ≡ Accepted → group ≡ group_of sh.k → group.limit < 256
+set_up_limit sh group e same = rw same (omega (arith, limit_most sh.k (set_up_range sh e).symbols.most))

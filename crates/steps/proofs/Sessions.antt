@@ -9,13 +9,14 @@ use lib.Dec.{eqb, ltb}
 use lib.ListN.{length, get_or, take, drop, length-append}
 use Rattle.cells.specs.Xor.{zeros}
 use Rattle.cells.proofs.Cells.{length_put}
+use Rattle.lines.specs.declared.reader.Reader.{Reader}
 use Rattle.lines.specs.Lines.{line_feed, lines_of, first_line, line_at}
 use Rattle.lines.specs.Hex.{char0, small_a, digit_of, digits_of}
 use Rattle.lines.proofs.Lines.{the_lines}
 use Rattle.frames.specs.Frames.{printed}
 use Rattle.steps.specs.declared.Next.{Next}
 use Rattle.steps.specs.Session.{Session, Fresh, most_text, most_store, AfterLines, line_done, and_then, lines_done, text_read, text_done}
-use Rattle.steps.specs.Steps.{Answers}
+use Rattle.steps.specs.Steps.{AnswersLine}
 use Rattle.steps.specs.Laws.{TheSession}
 use Rattle.steps.proofs.Kept.{kept, returned}
 
@@ -89,26 +90,24 @@ pub and_on : {all left then : AfterLines} {m n : ℕ} → Ahead all left m → A
 and_on a b = record { session = b.session ∙ a.session; store = b.store ∙ a.store; output = omega (arith, a.output, b.output) }
 
 -- a turn: a line is done, the text is read further, and the line's answer has room in the output
-module _ {session : Session} {store text : List ℕ} {at : ℕ} {out : List ℕ} {r : Next} {kept left : List ℕ} (a : Answers session store text at out r kept left)
-    (h : at < length text) where
-  pub turn : Ahead (lines_done session store (lines_of (drop at text))) (lines_done r.reply.session kept (lines_of (drop r.at text))) r.reply.len
+module _ {session : Session} {store : List ℕ} {reader : Reader} {out : List ℕ} {r : Next} {kept left : List ℕ} (a : AnswersLine session store reader out r kept left) where
+  pub turn : Ahead (lines_done session store (lines_of (drop reader.at reader.text.now))) (lines_done r.reply.session kept (lines_of (drop r.reader.at r.reader.text.now))) r.reply.len
   turn =
-      let g = a.line h in
-      let first = line_done session store (first_line (drop at text)) in
-      rw (a.next h, g.session, g.store, g.line.len, next session store text at h)
+      let g = a.line in
+      let first = line_done session store (first_line (drop reader.at reader.text.now)) in
+      rw (a.text, a.next, g.session, g.store, g.line.len, next session store reader.text.now reader.at a.left)
       (record { session = refl; store = refl; output = sym (length-append (printed first.answer) _) })
 
-  pub further : (at < r.at) × (r.at ≤ length text)
-  further = rw (a.next h) (the_lines.on text at h)
+  pub further : (reader.at < r.reader.at) × (r.reader.at ≤ length r.reader.text.now)
+  further = rw (a.text, a.next) (the_lines.on reader.text.now reader.at a.left)
 
   pub same_room : (length left ≡ length out) × (r.reply.len ≤ length out)
-  same_room = let p = (a.line h).line in (rw p.output (length_put out 0 _), rw p.len p.room)
+  same_room = let p = a.line.line in (rw p.output (length_put out 0 _), rw p.len p.room)
 
 -- at the end of what is read of a text
-pub at_last : (begun : Session) (first input text : List ℕ) (session : Session) (store : List ℕ) (at printed : ℕ) → text ≡ take most_text input → length text ≤ at
-    → Ahead (lines_done begun first (lines_of text)) (lines_done session store (lines_of (drop at text))) printed
+pub at_last : (begun : Session) (first input : List ℕ) (session : Session) (store text : List ℕ) (at printed : ℕ) → text ≡ take most_text input → length text ≤ at
+    → Ahead (lines_done begun first (lines_of (take most_text input))) (lines_done session store (lines_of (drop at text))) printed
     → let all = text_done begun first input in (session ≡ all.session) × (printed ≡ length all.output) × (store ≡ all.store)
-at_last begun first input text session store at printed e h a =
-    let end : Ahead (text_done begun first input) (record { session = session; store = store; output = [] }) printed =
-    rw (← e, ← none session store text at h) a in
+at_last begun first input session store text at printed e h a =
+    let end : Ahead (text_done begun first input) (record { session = session; store = store; output = [] }) printed = rw (← none session store text at h) a in
     (end.session, omega (arith, end.output), end.store)

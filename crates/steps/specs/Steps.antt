@@ -1,5 +1,6 @@
 -- What a step of a session promises.
-use Rattle.std.specs.Prelude.{◌≡◌, List, ℕ, ◌≤◌, ◌<◌, length, drop}
+use Rattle.std.specs.Prelude.{◌≡◌, List, ℕ, ◌≤◌, ◌<◌, length, drop, Option, Some, None}
+use Rattle.lines.specs.declared.reader.Reader.{Reader}
 use Rattle.lines.specs.Lines.{first_line, line_at}
 use Rattle.frames.specs.Printing.{Prints}
 use Rattle.steps.specs.declared.Reply.{Reply}
@@ -12,9 +13,14 @@ pub record Gives (after : After) (out : List ℕ) (r : Reply) (store_after out_a
   pub store : store_after ≡ after.store
   pub line : Prints after.answer out r.len out_after
 
--- The same of a text that has been read up to an index. A line that is left is answered, and the text is read up to the next one; where none is
--- left, nothing has changed, and there is no output line.
-pub record Answers (session : Session) (store text : List ℕ) (at : ℕ) (out : List ℕ) (r : Next) (store_after out_after : List ℕ) : Type 0 where
-  pub next : at < length text → r.at ≡ (line_at text at).next
-  pub line : at < length text → Gives (line_done session store (first_line (drop at text))) out r.reply store_after out_after
-  pub none : length text ≤ at → (r ≡ record { reply = record { session = session; len = 0 }; at = at }) × (store_after ≡ store) × (out_after ≡ out)
+-- The same of the next line of a text, by a reader of it: there is one, it is answered, and the reader is moved on to the one after it.
+pub record AnswersLine (session : Session) (store : List ℕ) (reader : Reader) (out : List ℕ) (r : Next) (store_after out_after : List ℕ) : Type 0 where
+  pub left : reader.at < length reader.text.now
+  pub line : Gives (line_done session store (first_line (drop reader.at reader.text.now))) out r.reply store_after out_after
+  pub text : r.reader.text ≡ reader.text
+  pub next : r.reader.at ≡ (line_at reader.text.now reader.at).next
+
+-- A line that is left is answered; where none is, nothing has changed, and there is no output line.
+abbrev pub Answers : (session : Session) → (store : List ℕ) → (reader : Reader) → (out : List ℕ) → Option Next → (store_after out_after : List ℕ) → Type 0
+Answers session store reader out (Some r) store_after out_after = AnswersLine session store reader out r store_after out_after
+Answers session store reader out None store_after out_after = (length reader.text.now ≤ reader.at) × (store_after ≡ store) × (out_after ≡ out)

@@ -3,18 +3,19 @@
 
 ghost use Rattle.std.specs.Prelude.{◌≡◌, List, ◌∷◌, ℕ, ◌*◌, ◌≤◌, ◌<◌, min, length};
 ghost use Rattle.memory.specs.History.{write, release};
-ghost use Rattle.frames.specs.Frames.{most_frame, frame_of, said};
+ghost use Rattle.frames.specs.Frames.{most_frame, frame_of, answer_byte, first_byte, said};
 ghost use Rattle.frames.specs.Printing.{Fits, Prints};
-ghost use Rattle.steps.specs.Session.{Running, most_store, refused_with, set_up_refusal, set_up_done, operation_done, cycle_of, frame_done, line_done};
+ghost use Rattle.steps.specs.Session.{Session, Running, most_store, set_up_refusal, set_up_done, operation_done, cycle_of, frame_done, line_done};
 ghost use Rattle.steps.specs.Laws.{TheSession};
 ghost use Rattle.steps.specs.Steps.{Gives, Answers};
-ghost use Rattle.steps.specs.Parts.{lent_size};
+ghost use Rattle.steps.specs.Parts.{lent_size, Tries};
 
 use frames::{Frame, MOST_FRAME, MOST_OUTPUT, MOST_STORE};
 use layout::{Geometry, Shape};
-use lines::{hex, reader};
-use memory::{Outcome, State};
-use refusals::{Reason, Refusal, Verdict, check};
+use lines::hex;
+use lines::reader::Reader;
+use memory::{Answer, State};
+use refusals::{Reason, Refusal, Verdict, check, refused};
 
 // The bytes that a session reads.
 pub const MOST_TEXT: usize = 32768;
@@ -22,34 +23,22 @@ pub const MOST_TEXT: usize = 32768;
 // The bytes of the schedule of as many reads as fit in a frame.
 const MOST_SCHEDULE: usize = MOST_FRAME / 3 * 2;
 
-// The refusals 19 and 18, with place 0.
-const NO_MEMORY: Refusal = Refusal {
-    reason: Reason::NoMemory,
-    place: 0,
-};
-
-const UNKNOWN_FRAME: Refusal = Refusal {
-    reason: Reason::UnknownFrame,
-    place: 0,
-};
-
 // What a session has from line to line, beside its store: the memory of the last accepted 01, if there was one.
 pub type Session = Option<State>;
 
 // What a line gives, or a text: the session, and how long its output is. A session goes into a step by value and comes back from it, since the
-// project's rules name this form for a state.
+// project's rules name this form for a state. The output stands in the caller's array, since no heap is asked for, and the length is all there is of it here.
 #[derive(Clone, Copy, Debug, PartialEq, Eq)]
 pub struct Reply {
     pub session: Session,
     pub len: usize,
 }
 
-// What the next line of a text gives: its reply, and where the line after it starts. The text and the position stand apart, since the project's
-// rules have a reader be a thin form over functions on these two.
+// What the next line of a text gives: its reply, and the reader moved on to the line after it.
 #[derive(Clone, Copy, Debug, PartialEq, Eq)]
-pub struct Next {
+pub struct Next<'a> {
     pub reply: Reply,
-    pub at: usize,
+    pub reader: Reader<'a>,
 }
 
 // Carries the laws of a session. It does nothing.
@@ -58,27 +47,22 @@ pub fn the_session()
     ensures { TheSession }
 {}
 
-// Prints a refusal. The session stays as it is.
-fn refuse(session: Session, first: u8, refusal: Refusal, out: &mut [u8; MOST_OUTPUT]) -> Reply
-    requires { refusal.place < 65536 }
-    ensures { (s : List ℕ) → Gives (refused_with session s first refusal) out.old result s out.new }
+// Prints the answer to a frame, with these packets if it is a cycle that is served. The session goes on as given.
+// Store and output stand apart, here and below: what a struct of the two leaves in them, a clause could say only as `exit.1.0.now`.
+fn answer(
+    session: Session,
+    frame: Frame,
+    answer: Result<Answer, Refusal>,
+    packets: &[u8],
+    out: &mut [u8; MOST_OUTPUT],
+) -> Reply
+    requires fits { Fits answer }
+    requires room { length packets.now ≤ most_store }
+    ensures session { result.session ≡ session }
+    ensures line { Prints (first_byte frame ∷ said packets.now answer) out.old result.len out.new }
 {
-    let len = frames::print_answer(first, Err(refusal), &[], out);
+    let len = frames::print_answer(frame.first_byte(), answer, packets, out);
     Reply { session, len }
-}
-
-// Prints what an operation answers, with these packets if it is a cycle that is served. The session goes on with the state that it gives.
-// Each caller takes the memory out of the session first: one function over a closure would have to give back the packets beside the outcome, which is no plainer.
-fn answer(first: u8, outcome: Outcome, packets: &[u8], out: &mut [u8; MOST_OUTPUT]) -> Reply
-    requires { Fits outcome.answer × (length packets.now ≤ most_store) }
-    ensures session { result.session ≡ Running outcome.state }
-    ensures line { Prints (first ∷ said packets.now outcome.answer) out.old result.len out.new }
-{
-    let len = frames::print_answer(first, outcome.answer, packets, out);
-    Reply {
-        session: Some(outcome.state),
-        len,
-    }
 }
 
 // How many bytes of the session's store a memory of this shape is lent: as many as it needs, if there are so many.
@@ -86,10 +70,7 @@ fn answer(first: u8, outcome: Outcome, packets: &[u8], out: &mut [u8; MOST_OUTPU
 fn lent_size(shape: Shape) -> usize
     ensures { result ≡ min (lent_size shape) most_store }
 {
-    match Geometry::of(shape) {
-        Ok(geometry) => geometry.store_size().min(MOST_STORE),
-        Err(_) => 0,
-    }
+    Geometry::try_from(shape).map_or(0, |geometry| geometry.store_size().min(MOST_STORE))
 }
 
 // The bytes of so many packets of p bytes, if there is room for them.
@@ -104,68 +85,72 @@ fn packets_size(count: usize, p: usize) -> usize
 fn judge_set_up(shape: Shape) -> Verdict
     ensures { result ≡ set_up_refusal shape }
 {
-    let geometry = Geometry::of(shape)?;
+    let geometry = Geometry::try_from(shape)?;
     let fits = geometry.store_size() <= MOST_STORE;
     check(fits, Reason::StoreTooLarge, 0)
 }
 
-// Frame 01.
-#[tactic(auto, using(crate::proofs::Fitting::set_up_place, crate::proofs::Fitting::set_up_range))]
-fn do_set_up(session: Session, shape: Shape, store: &mut [u8], out: &mut [u8; MOST_OUTPUT]) -> Reply
-    ensures { Gives (set_up_done session store.old shape) out.old result store.new out.new }
+// Frame 01, or its refusal.
+#[tactic(auto, using(crate::proofs::Fitting::set_up_place, crate::proofs::Fitting::set_up_banks, crate::proofs::Fitting::set_up_limit, crate::proofs::Fitting::set_up_range))]
+fn try_set_up(
+    shape: Shape,
+    store: &mut [u8; MOST_STORE],
+    out: &mut [u8; MOST_OUTPUT],
+) -> Result<Reply, Refusal>
+    ensures { (s : Session) → Tries (set_up_done s store.old shape) s store.old out.old (answer_byte 1) result store.new out.new }
 {
-    if let Err(refusal) = judge_set_up(shape) {
-        return refuse(session, 0x81, refusal, out);
-    }
+    judge_set_up(shape)?;
     cells::clear(store);
     let group = simplex::group_of(shape.k);
-    let bytes = [0x81, 0, (shape.m * group.banks) as u8, group.limit as u8];
+    let first = Frame::SetUp(shape).first_byte();
+    // `as` is proved to lose nothing, and no `From` narrows.
+    let bytes = [first, 0, (shape.m * group.banks) as u8, group.limit as u8];
     let len = frames::print_line(&bytes, out);
     let made = State::set_up(shape.k, shape.m, shape.p, shape.g);
-    Reply {
+    Ok(Reply {
         session: Some(made.state),
         len,
-    }
+    })
 }
 
 // Frame 02.
+#[tactic(auto, using(crate::proofs::Fitting::fits_write))]
 fn do_write(
-    session: Session,
+    state: State,
     row: usize,
     packets: &[u8],
-    store: &mut [u8],
+    store: &mut [u8; MOST_STORE],
     out: &mut [u8; MOST_OUTPUT],
 ) -> Reply
-    requires { length store.old ≡ most_store }
-    ensures { Gives (operation_done session store.old 2 (λ sh. write row packets.now)) out.old result store.new out.new }
+    ensures { Gives (operation_done (Running state) store.old 2 (λ sh. write row packets.now)) out.old result store.new out.new }
 {
-    let Some(state) = session else {
-        return refuse(session, 0x82, NO_MEMORY, out);
-    };
     let lent = lent_size(state.shape);
     let outcome = state.write(&mut store[..lent], row, packets);
-    answer(0x82, outcome, &[], out)
+    let frame = Frame::Write(row);
+    answer(Some(outcome.state), frame, outcome.answer, &[], out)
 }
 
 // Frame 03.
-#[tactic(auto, using(crate::proofs::Done::fresh, crate::proofs::Fitting::fits_release))]
-fn do_release(session: Session, row: usize, out: &mut [u8; MOST_OUTPUT]) -> Reply
-    ensures { (s : List ℕ) → Gives (operation_done session s 3 (λ sh. release row)) out.old result s out.new }
+#[tactic(auto, using(crate::proofs::Fitting::fits_release))]
+fn do_release(state: State, row: usize, out: &mut [u8; MOST_OUTPUT]) -> Reply
+    ensures { (s : List ℕ) → Gives (operation_done (Running state) s 3 (λ sh. release row)) out.old result s out.new }
 {
-    let Some(state) = session else {
-        return refuse(session, 0x83, NO_MEMORY, out);
-    };
-    answer(0x83, state.release(row), &[], out)
+    let outcome = state.release(row);
+    let frame = Frame::Release(row);
+    answer(Some(outcome.state), frame, outcome.answer, &[], out)
 }
 
 // Frame 04. The schedule is not printed.
-fn do_read(session: Session, reads: &[u8], store: &[u8], out: &mut [u8; MOST_OUTPUT]) -> Reply
-    requires { (length reads.now < most_frame) × (length store.now ≡ most_store) }
-    ensures { Gives (operation_done session store.now 4 (cycle_of reads.now)) out.old result store.now out.new }
+#[tactic(auto, using(crate::proofs::Fitting::fits_cycle, crate::proofs::Cycles::within))]
+fn do_read(
+    state: State,
+    reads: &[u8],
+    store: &[u8; MOST_STORE],
+    out: &mut [u8; MOST_OUTPUT],
+) -> Reply
+    requires { length reads.now < most_frame }
+    ensures { Gives (operation_done (Running state) store.now 4 (cycle_of reads.now)) out.old result store.now out.new }
 {
-    let Some(state) = session else {
-        return refuse(session, 0x84, NO_MEMORY, out);
-    };
     let mut packets = [0u8; MOST_STORE];
     let mut schedule = [0u8; MOST_SCHEDULE];
     let count = reads.len() / 3;
@@ -177,11 +162,38 @@ fn do_read(session: Session, reads: &[u8], store: &[u8], out: &mut [u8; MOST_OUT
         &mut packets[..size],
         &mut schedule[..count * 2],
     );
-    answer(0x84, outcome, &packets[..size], out)
+    answer(
+        Some(outcome.state),
+        Frame::Read,
+        outcome.answer,
+        &packets[..size],
+        out,
+    )
 }
 
-// What a frame does, by its kind.
+// What a frame does, by its kind, or the refusal before an operation: 1 to 4, 20; 18; 19.
 #[tactic(auto, unfolding(crate::specs::Session::frame_done), using(frames::proofs::Framed::write_long))]
+fn try_frame(
+    session: Session,
+    bytes: &[u8],
+    store: &mut [u8; MOST_STORE],
+    out: &mut [u8; MOST_OUTPUT],
+) -> Result<Reply, Refusal>
+    requires { (1 ≤ length bytes.now) × (length bytes.now ≤ most_frame) }
+    ensures { let frame = frame_of bytes.now in Tries (frame_done session store.old bytes.now frame) session store.old out.old (first_byte frame) result store.new out.new }
+{
+    // By kind and memory at once: the project's rules name this form.
+    match (frames::frame_of(bytes), session) {
+        (Frame::SetUp(shape), _) => try_set_up(shape, store, out),
+        (Frame::Write(row), Some(state)) => Ok(do_write(state, row, &bytes[2..], store, out)),
+        (Frame::Release(row), Some(state)) => Ok(do_release(state, row, out)),
+        (Frame::Read, Some(state)) => Ok(do_read(state, &bytes[1..], store, out)),
+        (Frame::Unknown, _) => refused(Reason::UnknownFrame, 0),
+        (_, None) => refused(Reason::NoMemory, 0),
+    }
+}
+
+// What a frame does, and the line that answers it, refused or not.
 fn do_frame(
     session: Session,
     bytes: &[u8],
@@ -191,16 +203,17 @@ fn do_frame(
     requires { (1 ≤ length bytes.now) × (length bytes.now ≤ most_frame) }
     ensures { Gives (frame_done session store.old bytes.now (frame_of bytes.now)) out.old result store.new out.new }
 {
-    match frames::frame_of(bytes) {
-        Frame::SetUp(shape) => do_set_up(session, shape, store, out),
-        Frame::Write(row) => do_write(session, row, &bytes[2..], store, out),
-        Frame::Release(row) => do_release(session, row, out),
-        Frame::Read => do_read(session, &bytes[1..], store, out),
-        Frame::Unknown => refuse(session, 0xff, UNKNOWN_FRAME, out),
+    match try_frame(session, bytes, store, out) {
+        Ok(done) => done,
+        Err(refusal) => {
+            let frame = frames::frame_of(bytes);
+            answer(session, frame, Err(refusal), &[], out)
+        }
     }
 }
 
 // One step of a session: what a line does with the memory and the store, and the line that answers it, at the front of the output.
+#[tactic(auto, using(crate::proofs::Fitting::line_place, frames::proofs::Framed::decoded))]
 pub fn step(
     session: Session,
     line: &[u8],
@@ -209,36 +222,29 @@ pub fn step(
 ) -> Reply
     ensures { Gives (line_done session store.old line.now) out.old result store.new out.new }
 {
-    if let Err(refusal) = frames::judge_line(line) {
-        return refuse(session, 0xff, refusal, out);
+    match frames::judge_line(line) {
+        Ok(()) => {
+            let mut bytes = [0u8; MOST_FRAME];
+            hex::decode(line, &mut bytes);
+            let len = line.len() / 2;
+            do_frame(session, &bytes[..len], store, out)
+        }
+        Err(refusal) => answer(session, Frame::Unknown, Err(refusal), &[], out),
     }
-    let mut bytes = [0u8; MOST_FRAME];
-    hex::decode(line, &mut bytes);
-    let len = line.len() / 2;
-    do_frame(session, &bytes[..len], store, out)
 }
 
-// One step of a session over a text that has been read up to `at`: answers the line that comes next, if one is left.
-pub fn answer_next(
-    text: &[u8],
-    at: usize,
+// One step of a session over a text: answers the line that a reader finds next, if one is left.
+pub fn answer_next<'a>(
+    reader: Reader<'a>,
     session: Session,
     store: &mut [u8; MOST_STORE],
     out: &mut [u8; MOST_OUTPUT],
-) -> Next
-    ensures { Answers session store.old text.now at out.old result store.new out.new }
+) -> Option<Next<'a>>
+    ensures { Answers session store.old reader.entry out.old result store.new out.new }
 {
-    if text.len() <= at {
-        return Next {
-            reply: Reply { session, len: 0 },
-            at,
-        };
-    }
-    let line = reader::next_line(text, at);
-    let end = line.end;
-    let reply = step(session, &text[at..end], store, out);
-    Next {
-        reply,
-        at: line.next,
-    }
+    let line = reader.line()?;
+    let Reader { text, at } = reader;
+    let reply = step(session, &text[at..line.end], store, out);
+    let reader = reader.moved(line.next);
+    Some(Next { reply, reader })
 }

@@ -2,7 +2,7 @@
 use mathlib.Core.Path.{◌≡◌, refl, sym, subst}
 use mathlib.Core.Bool.{Bool, true, false, not, ◌||◌, false≢true}
 use mathlib.Core.List.{List}
-use Prim.Native.Nat.{ℕ, zero, suc, ◌+◌, ◌*◌, ◌-◌, ◌<◌}
+use Prim.Native.Nat.{ℕ, zero, suc, ◌+◌, ◌-◌, ◌<◌}
 use native.Mathlib.Omega.{arith}
 use lib.Dec.{T, ltb, ltb→lt}
 use lib.ListN.{length, get_or, drop}
@@ -12,10 +12,10 @@ use Rattle.audit.specs.Plan.{is_plan, IsPlan}
 use Rattle.audit.specs.Audit.{all_zero}
 use Rattle.audit.proofs.Reading.{sound}
 use Rattle.audit.proofs.Requests.{zero_all}
-use Rattle.table.specs.Rows.{block_rows, blocks, trie}
+use Rattle.table.specs.Rows.{rows, trie}
 use Rattle.table.specs.Table.{SortedRequest, walk, row_index, row_of, row_pairs}
 use Rattle.table.proofs.Sweep.{below_at, everywhere, everywhere_at}
-use Rattle.table.proofs.Tested.{stored, inside, row_fits, test_of, test}
+use Rattle.table.proofs.Tested.{inside, row_fits, test_of, test}
 
 given : (a b : Bool) → a ≡ true → T (not a || b) → T b
 given true b e t = t
@@ -50,18 +50,14 @@ holds true t = refl
 holds false t = absurd t
 
 -- a walk that stays within the trie ends within the rows
-ends : (counts : List ℕ) (at n : ℕ) → T (inside counts at n) → walk counts at n + get_or counts 1 0 < stored
-ends counts at zero t = ltb→lt (at + get_or counts 1 0) stored t
+ends : (counts : List ℕ) (at n : ℕ) → T (inside counts at n) → walk counts at n + get_or counts 1 0 < length rows
+ends counts at zero t = ltb→lt (at + get_or counts 1 0) (length rows) t
 ends counts at (suc n) t =
     let next : ℕ = at + get_or counts (suc (suc n)) 0 in
     ends counts (get_or trie next 0) n (and_right (ltb next (length trie)) (inside counts (get_or trie next 0) n) t)
 
-pub index_stored : (K : ℕ) (counts : List ℕ) → SortedRequest K counts → row_index K counts < stored
-index_stored K counts s = ends counts (get_or trie (K - least_symbols) 0) (K - 2) (within K counts s)
-
-pub found : (K : ℕ) (counts : List ℕ) → SortedRequest K counts → row_index K counts < length blocks * block_rows
-unfolding blocks
-found K counts s = omega (arith, index_stored K counts s)
+pub found : (K : ℕ) (counts : List ℕ) → SortedRequest K counts → row_index K counts < length rows
+found K counts s = ends counts (get_or trie (K - least_symbols) 0) (K - 2) (within K counts s)
 
 pub valid : (K : ℕ) (counts : List ℕ) → SortedRequest K counts → IsPlan K counts (row_pairs (row_of K counts) counts)
 valid K counts s = sound K counts (row_pairs (row_of K counts) counts) (holds (is_plan K counts (row_pairs (row_of K counts) counts)) (is_plan_lem K counts s))

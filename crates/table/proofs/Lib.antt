@@ -2,6 +2,5 @@
 pub mod Grouped
 pub mod Sweep
 pub mod Tested
-pub mod Stored
 pub mod Found
 pub mod Walks

@@ -7,17 +7,13 @@ use lib.ListN.{length, get_or, drop}
 use Rattle.simplex.specs.Shape.{least_symbols, most_symbols, limit_of}
 use Rattle.audit.specs.Plan.{is_plan}
 use Rattle.audit.specs.Audit.{all_zero}
-use Rattle.table.specs.Rows.{blocks, trie}
+use Rattle.table.specs.Rows.{rows, trie}
 use Rattle.table.specs.Table.{row_of, row_pairs}
 use Rattle.table.proofs.Sweep.{below, everywhere}
 
--- how many rows the code stores: the blocks without the unused places of the last
-abbrev pub stored : ℕ
-stored = 122
-
 -- the walk stays within the trie, and its end within the rows
 abbrev pub inside : List ℕ → ℕ → ℕ → Bool
-inside counts at zero = ltb (at + get_or counts 1 0) stored
+inside counts at zero = ltb (at + get_or counts 1 0) (length rows)
 inside counts at (suc n) =
     ltb (at + get_or counts (suc (suc n)) 0) (length trie) && inside counts (get_or trie (at + get_or counts (suc (suc n)) 0) 0) n
 
@@ -28,5 +24,5 @@ abbrev pub test_of : ℕ → Bool
 test_of K = everywhere (λ c. not (all_zero (drop K c)) || row_fits K c) most_symbols (limit_of K) (limit_of K)
 
 pub test : T (below (suc most_symbols - least_symbols) (λ n. test_of (n + least_symbols)))
-unfolding row_fits is_plan row_of blocks trie
+unfolding row_fits is_plan row_of rows trie
 test = tt

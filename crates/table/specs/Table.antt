@@ -5,7 +5,7 @@ use Rattle.simplex.specs.Limit.{total}
 use Rattle.audit.specs.Plan.{Pair, start, IsPlan}
 use Rattle.audit.specs.Audit.{RequestOf}
 use Rattle.table.specs.Grouped.{pair_with, grouped}
-use Rattle.table.specs.Rows.{block_rows, blocks, trie}
+use Rattle.table.specs.Rows.{rows, trie}
 
 -- Each count is at most the one before it, and the first at most this.
 abbrev pub Falling : ℕ → List ℕ → Type 0
@@ -29,7 +29,7 @@ row_index K counts = walk counts (get_or trie (K - least_symbols) 0) (K - 2) + g
 
 -- Its row: a number with a digit for each read, in the order of a plan.
 unfoldable pub row_of : ℕ → List ℕ → ℕ
-row_of K counts = get_or (get_or blocks (row_index K counts / block_rows) []) (row_index K counts % block_rows) 0
+row_of K counts = get_or rows (row_index K counts) 0
 
 -- The bits of a digit.
 abbrev pub digit_bits : ℕ
@@ -51,8 +51,7 @@ second_bank row i n = spread i (digit_of row n)
 abbrev pub row_pairs : ℕ → List ℕ → List Pair
 row_pairs row counts = grouped (λ i j. pair_with i (second_bank row i (start counts i + j))) 0 counts
 
--- valid: the pairs of the row of every sorted request are a plan for it. found: its index lies within the stored blocks, of which the last has unused
--- places.
+-- valid: the pairs of the row of every sorted request are a plan for it. found: its index is that of a stored row.
 pub record TheTable : Type 0 where
   pub valid : (K : ℕ) (counts : List ℕ) → SortedRequest K counts → IsPlan K counts (row_pairs (row_of K counts) counts)
-  pub found : (K : ℕ) (counts : List ℕ) → SortedRequest K counts → row_index K counts < length blocks * block_rows
+  pub found : (K : ℕ) (counts : List ℕ) → SortedRequest K counts → row_index K counts < length rows

@@ -1,5 +1,5 @@
 // The stored rows and their trie. Written by tools/table.py; nothing rests on how they were found.
-// Statics, because a constant array would be stored anew at each use.
+// Statics, because a constant array would be stored anew at each use; and a trie of indices, because it is constant data, without a heap.
 
 // Where the row of a request is: by the walk of specs/Table.antt.
 pub static TRIE: [u8; 61] = [

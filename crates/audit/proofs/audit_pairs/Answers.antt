@@ -1,74 +1,87 @@
 -- Each test of a pair, by the turn of the walk.
-use Rattle.std.proofs.Common.{ℕ, ◌≡◌, ◌+◌, ◌-◌, ◌*◌, ◌/◌, ◌<◌, sym, ap, ◌∙◌, arith}
-use mathlib.Core.Path.{subst}
-use mathlib.Core.Bool.{Bool, true}
-use mathlib.Core.List.{List}
-use lib.ListN.{length, get_or}
-use Rattle.simplex.specs.Shape.{SymbolsInRange}
+use Rattle.std.proofs.Common.{◌≡◌, ◌/◌, ℕ, suc, List, [], ◌∷◌, Bor, length, replicate, refl, sym, ◌∙◌, arith, rules}
+use Rattle.std.specs.List.{zip, flat_map, enumerate_from}
+use Rattle.std.specs.Simd.{first_chunks}
+use Rattle.std.specs.Iterator.Adapters.{flatten_source, map_callee}
+use Rattle.std.proofs.lemmas.Iterator.{YieldsList, YieldsList-from_slice, YieldsList-from_zip}
+use Rattle.std.proofs.lemmas.Iterator.Consumers.{YieldsList-at, YieldsList-from_enumerate, YieldsList-turn, YieldsList-end}
+use Rattle.std.proofs.lemmas.Iterator.Adapters.{YieldsList-from_flat_map, YieldsList-from_repeat_n}
+use Rattle.std.proofs.lemmas.List.{length_push}
+use native.Mathlib.Numerals.{add-one}
+use Rattle.simplex.specs.Limit.{reads_from}
 use Rattle.audit.specs.Plan.{Pair, serves}
-use Rattle.audit.specs.Audit.{pair_in}
-use Rattle.audit.proofs.Pairs.{banks_below}
-use Rattle.audit.proofs.Walk.{From, none_yet, all_passed, not_served, first_met, second_met, one_more, turn_of, pair_read}
+use Rattle.audit.specs.Audit.{pairs_of}
+use Rattle.audit.proofs.Pairs.{as_served, first_below, length_pairs, zipped, zipped_all}
+use Rattle.audit.proofs.Walk.{Turn, all_passed, not_served, first_met, second_met, one_more}
+use Rattle.audit.proofs.audit_pairs.Given as given
 use Rattle.audit.proofs.audit_pairs.Goals as goal
-use Rattle.audit.proofs.audit_pairs.Goals.{then-is_marked-via-then-is_marked, then-is_marked-via-else-is_marked+then-is_marked-2}
+use Rattle.audit.proofs.audit_pairs.Goals.{After-into_iter-a-iterator, After-serves_symbol, then-not-serves_symbol-via-then-not-serves_symbol, then-not-serves_symbol-via-else-not-serves_symbol+then-is_marked, then-not-serves_symbol-via-else-not-serves_symbol+else-is_marked+then-is_marked-2}
 
-pub loop-n-init : goal.loop-n-init
-loop-n-init c =
-    let n : ℕ = length c.args.bytes.now / 2 in
-    (omega arith, none_yet c.args.k c.args.counts c.args.bytes.now n (omega arith) (omega arith))
+abbrev symbols : (k : ℕ) (counts : List ℕ) → List ℕ
+symbols k counts = flat_map (λ (p : ℕ × ℕ). replicate p.1 p.0) (enumerate_from k counts)
 
--- whether the pair that is read serves its symbol, of the pair that the bytes have there; and that its banks are then below 64
-served : (k i : ℕ) (bytes : List ℕ) (m a b : ℕ) (r t : Bool) → a ≡ get_or bytes (m * 2) 0 → b ≡ get_or bytes (m * 2 + 1) 0
-    → r ≡ serves k i (record { a = a; b = b }) → r ≡ t → serves k i (pair_in bytes m) ≡ t
-served k i bytes m a b r t e f s h = ap (serves k i) (sym (pair_read bytes m a b e f)) ∙ sym s ∙ h
+listed : (k : ℕ) (counts : List ℕ) → symbols k counts ≡ reads_from k counts
+listed k [] = refl
+listed k (c ∷ counts) = rw (add-one k, listed (suc k) counts)
 
-below : (k i : ℕ) (p : Pair) (r : Bool) → SymbolsInRange k → r ≡ serves k i p → r ≡ true → (p.a < 64) × (p.b < p.a)
-below k i p r range s h = banks_below k i p range (sym s ∙ h)
+-- what the loop goes over: the bytes of each pair, and the symbol of its read
+road : (c : After-into_iter-a-iterator) → YieldsList (given.iterator-loop-a).next_gives (λ (p : Bor (List ℕ) × ℕ). (p.0.now, p.1)) c.into_iter-a-iterator.result (zip (first_chunks 2 (length c.args.bytes.now / 2) c.args.bytes.now) (symbols 0 c.args.counts))
+road c =
+    YieldsList-at c.into_iter-a-iterator.ensures.into_iter_gives
+    (YieldsList-from_zip (YieldsList-at c.zip-a-items.ensures.first (YieldsList-from_slice _ (c.iter-2.ensures.rest ∙ c.as_chunks.ensures.front)))
+    (YieldsList-at c.zip-a-items.ensures.second
+    (YieldsList-from_flat_map _ _ _ (λ y. y) (λ (p : ℕ × ℕ). replicate p.1 p.0) (map_callee (flatten_source c.flat_map-symbols.result)) (λ x u q k. (search rules, λ j b. YieldsList-from_repeat_n (λ y z. z ≡ y) x.1.now x.0 (search rules) (search rules) (λ y e. e)))
+    (YieldsList-at c.flat_map-symbols.ensures.source (YieldsList-from_enumerate (YieldsList-at c.enumerate.ensures.source (YieldsList-from_slice c.args.counts cc)) c.enumerate.ensures.count))
+    refl c.flat_map-symbols.ensures.front c.flat_map-symbols.ensures.back c.flat_map-symbols.ensures.done)))
+
+abbrev pair : After-serves_symbol → Pair
+pair c = record { a = c.from-a.result; b = c.from-b.result }
+
+turn : (c : After-serves_symbol) → YieldsList (given.iterator-loop-a).next_gives (λ (p : Bor (List ℕ) × ℕ). (p.0.now, p.1)) c.into_iter-a-iterator.result (zip (first_chunks 2 (length c.args.bytes.now / 2) c.args.bytes.now) (symbols 0 c.args.counts)) → Turn c.args.k c.args.counts (pairs_of c.args.bytes.now) (length c.loop-a.yielded) c.loop-a.used c.in-Some.i (pair c)
+turn c gives =
+    let t = rw listed at (YieldsList-turn gives c.loop-a.yielded c.loop-a.a-iterator c.loop-a.yielded_by c.next.result c.next.new.self _ c.in-Some.is c.next.ensures.steps) in
+    let z = zipped c.args.counts c.args.bytes.now (length c.loop-a.yielded) _ _ c.requires.even t in
+    record {
+      within = z.0;
+      symbol = z.1;
+      pair = rw (c.from-a.ensures, c.from-b.ensures) z.2;
+      walked = c.loop-a.invariant.2;
+    }
+
+tested : (c : After-serves_symbol) → c.serves_symbol.result ≡ serves c.args.k c.in-Some.i (pair c)
+tested c = as_served _ _ _ _ _ c.group_of-group.ensures c.requires.symbols_in_range _ c.serves_symbol.ensures
+
+pub is_marked-requires : goal.is_marked-requires
+is_marked-requires c = first_below _ _ _ _ _ c.group_of-group.ensures c.requires.symbols_in_range _ c.serves_symbol.ensures c.if-not-serves_symbol.false
+
+pub toggle_bank-used-requires : goal.toggle_bank-used-requires
+toggle_bank-used-requires c = first_below _ _ _ _ _ c.group_of-group.ensures c.requires.symbols_in_range _ c.serves_symbol.ensures c.if-not-serves_symbol.false
 
 pub returns-then-not-serves_symbol : goal.returns-then-not-serves_symbol
 returns-then-not-serves_symbol c =
-    let l = c.loop-n in
-    let t = turn_of {K = c.args.k} {bytes = c.args.bytes.now} (omega arith) l.invariant.0 c.requires.even c.symbol_of.ensures.0 l.invariant.1 in
-    sym (not_served t (served c.args.k c.symbol_of.result c.args.bytes.now (l.n - 1) _ _ _ _ c.from-a.ensures c.from-b.ensures c.serves_symbol.ensures c.if-not-serves_symbol.true))
-
-pub is_marked-requires : goal.is_marked-requires
-is_marked-requires c = (below c.args.k c.symbol_of.result _ _ c.requires.symbols_in_range c.serves_symbol.ensures c.if-not-serves_symbol.false).0
-
-pub is_marked-requires-else-is_marked : goal.is_marked-requires-else-is_marked
-is_marked-requires-else-is_marked c =
-    omega (arith, below c.args.k c.symbol_of.result _ _ c.requires.symbols_in_range c.serves_symbol.ensures c.if-not-serves_symbol.false)
-
-pub returns-then-is_marked : goal.returns-then-is_marked
-returns-then-is_marked c =
-    let l = c.loop-n in
-    let t = turn_of {K = c.args.k} {bytes = c.args.bytes.now} (omega arith) l.invariant.0 c.requires.even c.symbol_of.ensures.0 l.invariant.1 in
-    let s = served c.args.k c.symbol_of.result c.args.bytes.now (l.n - 1) _ _ _ _ c.from-a.ensures c.from-b.ensures c.serves_symbol.ensures c.if-not-serves_symbol.false in
-    elim c.then-is_marked.branch [
-      | then-is_marked-via-then-is_marked w ↦ sym (first_met t s (rw (← c.from-a.ensures) (sym c.is_marked.ensures ∙ w.if-is_marked.true)))
-      | then-is_marked-via-else-is_marked+then-is_marked-2 w ↦
-          sym (second_met t s (rw (← c.from-b.ensures) (sym w.is_marked-else-is_marked.ensures ∙ w.if-is_marked-2.true)))
+    let at = (goal.at.returns-then-not-serves_symbol c).After-serves_symbol in
+    let turn-now = turn at (road (goal.at.returns-then-not-serves_symbol c).After-into_iter-a-iterator) in
+    elim c.then-not-serves_symbol.branch [
+      | then-not-serves_symbol-via-then-not-serves_symbol w ↦ sym (not_served turn-now (sym (tested at) ∙ w.if-not-serves_symbol.true))
+      | then-not-serves_symbol-via-else-not-serves_symbol+then-is_marked w ↦ sym (first_met turn-now (sym w.is_marked.ensures ∙ w.if-is_marked.true))
+      | then-not-serves_symbol-via-else-not-serves_symbol+else-is_marked+then-is_marked-2 w ↦
+          sym (second_met turn-now (sym w.is_marked-else-is_marked.ensures ∙ w.if-is_marked-2.true))
     ]
 
-pub toggle_bank-requires : goal.toggle_bank-requires
-toggle_bank-requires c =
-    omega (arith, below c.args.k c.symbol_of.result _ _ c.requires.symbols_in_range c.serves_symbol.ensures c.if-not-serves_symbol.false)
-
-pub toggle_bank-used-requires : goal.toggle_bank-used-requires
-toggle_bank-used-requires c = (below c.args.k c.symbol_of.result _ _ c.requires.symbols_in_range c.serves_symbol.ensures c.if-not-serves_symbol.false).0
-
-pub loop-n-preserved : goal.loop-n-preserved
-loop-n-preserved c =
-    let l = c.loop-n in
-    let t = turn_of {K = c.args.k} {bytes = c.args.bytes.now} (omega arith) l.invariant.0 c.requires.even c.symbol_of.ensures.0 l.invariant.1 in
-    let s = served c.args.k c.symbol_of.result c.args.bytes.now (l.n - 1) _ _ _ _ c.from-a.ensures c.from-b.ensures c.serves_symbol.ensures c.if-not-serves_symbol.false in (
-      omega arith,
-      rw (c.toggle_bank-used.ensures, c.toggle_bank.ensures, c.from-a.ensures, c.from-b.ensures)
-          (one_more t s (rw (← c.from-a.ensures) (sym c.is_marked.ensures ∙ c.if-is_marked.false))
-          (rw (← c.from-b.ensures) (sym c.is_marked-else-is_marked.ensures ∙ c.if-is_marked-2.false))),
+pub loop-a-preserved : goal.loop-a-preserved
+loop-a-preserved c =
+    let at = (goal.at.loop-a-preserved c).After-serves_symbol in
+    let turn-now = turn at (road (goal.at.loop-a-preserved c).After-into_iter-a-iterator) in (
+      c.in-Some.ensures.goes.keeps,
+      (c.in-Some.ensures.goes.on c.loop-a.invariant.1).1,
+      rw (c.toggle_bank-used.ensures, c.toggle_bank.ensures, length_push)
+          (one_more turn-now (sym (tested at) ∙ c.if-not-serves_symbol.false) (sym c.is_marked.ensures ∙ c.if-is_marked.false)
+          (sym c.is_marked-else-is_marked.ensures ∙ c.if-is_marked-2.false)),
     )
 
 pub returns : goal.returns
 returns c =
-    let none : c.loop-n.n ≡ 0 = omega arith in
-    sym (all_passed c.args.k c.args.counts c.args.bytes.now c.loop-n.used
-    (subst (λ (n : ℕ). From c.args.k c.args.counts c.args.bytes.now n c.loop-n.used) none c.loop-n.invariant.1))
+    let counts = c.args.counts in
+    let bytes = c.args.bytes.now in
+    let all = rw listed at (YieldsList-end (road (goal.at.returns c).After-into_iter-a-iterator) c.loop-a.yielded c.loop-a.a-iterator c.loop-a.yielded_by c.next.result c.next.new.self c.in-None.is c.next.ensures.steps).1 in
+    sym (all_passed c.args.k counts (pairs_of bytes) (length c.loop-a.yielded) c.loop-a.used (omega (arith, length_pairs bytes)) (zipped_all counts bytes _ c.requires.even all) c.loop-a.invariant.2)

@@ -1,8 +1,9 @@
-use Rattle.std.proofs.Common.{◌≤◌}
-use Rattle.simplex.specs.Limit.{total}
-use Rattle.audit.proofs.Walk.{From}
+use Rattle.std.proofs.Common.{length}
+use Rattle.simplex.specs.Limit.{reads_of}
+use Rattle.audit.specs.Audit.{pairs_of}
+use Rattle.audit.proofs.Walk.{Walked}
 use Rattle.audit.proofs.audit_pairs.Given as goal
 
--- the pairs from pair n on are passed, and `used` marks the banks that they open
-abbrev pub invariant-loop-n : goal.invariant-loop-n
-invariant-loop-n l = (l.n ≤ total l.fn.counts) × From l.fn.k l.fn.counts l.fn.bytes l.n l.used
+abbrev pub invariant-loop-a : goal.invariant-loop-a
+invariant-loop-a l =
+    (goal.iterator-loop-a).can_next l.a-iterator × (goal.iterator-loop-a).is_finite l.a-iterator × Walked l.fn.k (reads_of l.fn.counts) (pairs_of l.fn.bytes) (length l.yielded) l.used

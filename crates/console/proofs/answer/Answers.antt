@@ -10,26 +10,27 @@ short text read e = rw (e, length-take) (omega arith)
 
 pub overflow_add-len : goal.overflow_add-len
 overflow_add-len g c =
-    let room = same_room c.answer_next-next.ensures c.loop-at-test.true in
-    omega (arith, short c.args.text.now c.cut-read.result.now c.cut-read.ensures, room)
+    let short = short _ _ c.loop-next.invariant.text in
+    let room = same_room c.in-Some.ensures in
+    omega arith
 
-pub loop-at-preserved : goal.loop-at-preserved
-loop-at-preserved g c =
-    let on = further c.answer_next-next.ensures c.loop-at-test.true in
-    let room = same_room c.answer_next-next.ensures c.loop-at-test.true in
-    (on.1, room.0 ∙ c.loop-at.invariant.1, omega (arith, on, room), and_on c.loop-at.invariant.3 (turn c.answer_next-next.ensures c.loop-at-test.true))
+pub loop-next-preserved : goal.loop-next-preserved
+loop-next-preserved g c =
+    let now = c.loop-next.invariant in
+    let line = c.in-Some.ensures in
+    let on = further line in
+    let room = same_room line in
+    record {
+      text = rw line.text now.text;
+      within = on.1;
+      room = room.0 ∙ now.room;
+      few = omega arith;
+      ahead = and_on now.ahead (turn line);
+    }
 
-pub returns-clause-session : goal.returns-clause-session
-returns-clause-session g c =
-    (at_last c.args.begun c.args.store.now c.args.text.now c.cut-read.result.now c.loop-at.session c.loop-at.store c.loop-at.at c.loop-at.len c.cut-read.ensures
-    c.loop-at-test.false c.loop-at.invariant.3).0
-
-pub returns-clause-len : goal.returns-clause-len
-returns-clause-len g c =
-    (at_last c.args.begun c.args.store.now c.args.text.now c.cut-read.result.now c.loop-at.session c.loop-at.store c.loop-at.at c.loop-at.len c.cut-read.ensures
-    c.loop-at-test.false c.loop-at.invariant.3).1
-
-pub returns-clause-store : goal.returns-clause-store
-returns-clause-store g c =
-    (at_last c.args.begun c.args.store.now c.args.text.now c.cut-read.result.now c.loop-at.session c.loop-at.store c.loop-at.at c.loop-at.len c.cut-read.ensures
-    c.loop-at-test.false c.loop-at.invariant.3).2
+pub returns : goal.returns
+returns g c =
+    let now = c.loop-next.invariant in
+    let none = c.in_default.ensures in
+    let all = at_last _ _ _ _ _ _ _ _ now.text none.0 now.ahead in
+    record { session = all.0; len = all.1; store = none.1 ∙ all.2 }

@@ -1,15 +1,19 @@
 -- What is left of the text, from the memory and the store as they are, does what all of it does from the first ones, but for the output so far. A turn reads
 -- at least a byte, so the output's length fits a word.
-use Rattle.std.proofs.Common.{◌≡◌, ◌-◌, ◌*◌, ◌≤◌, length, drop}
+use Rattle.std.proofs.Common.{◌≡◌, ◌-◌, ◌*◌, ◌≤◌, length, take, drop}
 use Rattle.lines.specs.Lines.{lines_of}
-use Rattle.steps.specs.Session.{most_output, lines_done}
+use Rattle.steps.specs.Session.{most_text, most_output, lines_done}
 use Rattle.steps.proofs.Sessions.{Ahead}
 use Rattle.console.proofs.answer.Given as goal
 
-abbrev pub invariant-loop-at : goal.invariant-loop-at
-invariant-loop-at g l =
-    (l.at ≤ length l.read) × (length l.out ≡ most_output) × (l.len ≤ most_output * l.at)
-    × Ahead (lines_done l.fn.begun l.fn.store (lines_of l.read)) (lines_done l.session l.store (lines_of (drop l.at l.read))) l.len
+abbrev pub invariant-loop-next : goal.invariant-loop-next
+invariant-loop-next g l = record {
+  text : l.reader.text.now ≡ take most_text l.text;
+  within : l.reader.at ≤ length l.reader.text.now;
+  room : length l.out ≡ most_output;
+  few : l.len ≤ most_output * l.reader.at;
+  ahead : Ahead (lines_done l.fn.session l.fn.store (lines_of (take most_text l.text))) (lines_done l.session l.store (lines_of (drop l.reader.at l.reader.text.now))) l.len;
+}
 
-abbrev pub decreases-loop-at : goal.decreases-loop-at
-decreases-loop-at g l = length l.read - l.at
+abbrev pub decreases-loop-next : goal.decreases-loop-next
+decreases-loop-next g l = length l.reader.text.now - l.reader.at

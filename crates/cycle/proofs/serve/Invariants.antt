@@ -7,6 +7,6 @@ use Rattle.cycle.proofs.serve.Given as goal
 
 abbrev pub invariant-loop-n : goal.invariant-loop-n
 invariant-loop-n l =
-    (l.out ≡ put_each l.fn.geometry.shape.p (packet_of l.fn.geometry.shape l.store l.reads) l.n l.fn.out)
-    × (l.schedule ≡ put_each 2 (line_of l.fn.geometry.shape.k l.reads) l.n l.fn.schedule)
-    × GroupsAfter l.fn.geometry.shape.k l.reads l.n l.fn.geometry.shape.m l.groups
+    (l.out ≡ put_each l.fn.store.geometry.shape.p (packet_of l.fn.store.geometry.shape l.fn.store.bytes.now l.reads) l.n l.fn.out)
+    × (l.schedule ≡ put_each 2 (line_of l.fn.store.geometry.shape.k l.reads) l.n l.fn.schedule)
+    × GroupsAfter l.fn.store.geometry.shape.k l.reads l.n l.fn.store.geometry.shape.m l.groups

@@ -1,39 +1,21 @@
 -- `memory::the_memory` carries the laws of the memory.
 use Rattle.std.proofs.Common.{◌≡◌, refl}
-use mathlib.Core.Bool.{Bool, true, false}
-use Rattle.refusals.specs.declared.Reason.TheVariants as reason
-use Rattle.refusals.specs.Verdict.{refused}
-use Rattle.memory.specs.declared.State.{State}
-use Rattle.memory.specs.State.{sound, Sound}
-use Rattle.memory.specs.Operations.{write_refusal, update_refusal, release_refusal, release_set_refusal, cycle_refusal}
-use Rattle.memory.specs.History.{Operation, write, update, release, release_set, read, Memory, outcome_of}
+use Rattle.std.proofs.lemmas.Bool.{false_from_ne_true}
 use Rattle.memory.proofs.States.{sound_words, words_sound}
 use Rattle.memory.proofs.Accepted.{written_facts, update_facts, facts_update, wrong_update, released_facts}
 use Rattle.memory.proofs.Toggling.{row_filled, row_emptied}
 use Rattle.memory.proofs.Emptying.{seven, nine}
+use Rattle.memory.proofs.Outcomes.{broken_refused}
 use Rattle.memory.proofs.Singly.{set_released_lem, empty_set_lem, singly, some_list}
 use Rattle.rows.proofs.Writing.{row_written_lem}
 use Rattle.rows.proofs.Updating.{store_updated}
 use Rattle.memory.proofs.Histories.{after_any_history}
 use Rattle.memory.proofs.the_memory.Goals as goal
 
-not_sound : (st : State) → (Sound st → ⊥) → (t : Bool) → sound st ≡ t → sound st ≡ false
-not_sound st h true e = absurd (h (sound_words st e))
-not_sound st h false e = e
-
-by_the_state : (memory : Memory) → sound memory.state ≡ false → (operation : Operation)
-    → outcome_of memory operation ≡ record { state = memory.state; answer = refused reason.BrokenState 0 }
-unfolding write_refusal update_refusal release_refusal release_set_refusal cycle_refusal
-by_the_state memory e (write row generation) = rw e
-by_the_state memory e (update row x i packet) = rw e
-by_the_state memory e (release row) = rw e
-by_the_state memory e (release_set set) = rw e
-by_the_state memory e (read reads out schedule) = rw e
-
 pub returns : goal.returns
 returns c = record {
   states = λ st. (sound_words st, words_sound st);
-  broken = λ memory h. by_the_state memory (not_sound memory.state h (sound memory.state) refl);
+  broken = λ memory h. broken_refused memory (false_from_ne_true _ (λ e. h (sound_words memory.state e)));
   written = λ st s row generation e. let w = written_facts _ _ _ _ e in
       rw e (row_written_lem st.shape row generation s w.below w.store w.whole, row_filled st row w.below w.empty);
   update_accepted = λ st size row x i len. (update_facts st size row x i len, facts_update st size row x i len);

@@ -1,7 +1,7 @@
-use Rattle.std.proofs.Common.{length}
-use Rattle.reads.proofs.Taking.{Counted}
+-- The counts are those of the reads so far.
+use Rattle.std.proofs.Common.{◌≡◌}
+use Rattle.reads.proofs.Grids.{all_until}
 use Rattle.reads.proofs.count_reads.Given as goal
 
--- the reads that were taken are counted
 abbrev pub invariant-loop-read : goal.invariant-loop-read
-invariant-loop-read l = Counted l.fn.reads l.read-iterator l.counts (length l.yielded)
+invariant-loop-read l = l.counts ≡ all_until l.reads l.read-index

@@ -1,20 +1,25 @@
--- `rows::write_row` meets its contract: group x's packets lie within the generation, and a turn puts its cells.
-use Rattle.std.proofs.Common.{◌*◌, arith, ◌∙◌}
-use Rattle.cells.proofs.Cells.{cell_part}
-use Rattle.rows.proofs.Writing.{group_within}
-use Rattle.rows.proofs.Groups.{none_written, one_written}
+-- Each turn puts the group whose packets come.
+use Rattle.std.proofs.Common.{arith, sym, ◌∙◌}
+use Rattle.rows.proofs.Groups.{fillable}
+use Rattle.rows.proofs.Writing.{group_spaced}
+use Rattle.rows.proofs.Chunks.{turn, all_put}
 use Rattle.rows.proofs.write_row.Goals as goal
-
-pub loop-x-init : goal.loop-x-init
-loop-x-init c = none_written _ _ _ _
-
-pub slice_bounds-write_group-end : goal.slice_bounds-write_group-end
-slice_bounds-write_group-end c =
-    omega (arith, group_within c.args.geometry.shape c.args.generation.now c.loop-x.x (omega arith) c.requires.store_len.1)
 
 pub loop-x-preserved : goal.loop-x-preserved
 loop-x-preserved c =
-    let a = c.args in
-    let len = a.geometry.shape.k * a.geometry.shape.p in
-    c.write_group.ensures
-    ∙ one_written a.geometry.shape a.row a.generation.now c.loop-x.x a.store.now c.loop-x.store _ c.loop-x.invariant (cell_part a.generation.now (c.loop-x.x * len) len)
+    let t = turn c.args.geometry.in_range c.requires.store_len.1 c.loop-x.invariant c.in-Some.x c.in-Some.packets c.next.new.self (c.in-Some.ensures {u = tt}).steps in
+    t.put _ (c.fill_group.ensures ∙ rw c.spacing_of.ensures (sym (group_spaced c.args.geometry.shape c.in-Some.x c.args.row _ c.loop-x.store)))
+
+pub spacing_of-requires : goal.spacing_of-requires
+spacing_of-requires c =
+    let t = turn c.args.geometry.in_range c.requires.store_len.1 c.loop-x.invariant c.in-Some.x c.in-Some.packets c.next.new.self (c.in-Some.ensures {u = tt}).steps in
+    (omega (arith, t.there), omega (arith, c.requires.place))
+
+pub fill_group-requires : goal.fill_group-requires
+fill_group-requires c =
+    let t = turn c.args.geometry.in_range c.requires.store_len.1 c.loop-x.invariant c.in-Some.x c.in-Some.packets c.next.new.self (c.in-Some.ensures {u = tt}).steps in
+    rw c.spacing_of.ensures
+    (fillable _ _ _ c.args.geometry.in_range (omega (arith, t.there)) (omega (arith, c.requires.place)) _ _ t.size (c.loop-x.auto.store ∙ c.requires.store_len.0))
+
+pub returns : goal.returns
+returns c = all_put c.args.geometry.in_range c.requires.store_len.1 c.loop-x.invariant c.next.new.self (c.in-None.ensures {u = tt}).steps

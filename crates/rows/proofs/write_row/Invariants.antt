@@ -1,7 +1,6 @@
--- The cells of the first x groups are put.
-use Rattle.std.proofs.Common.{◌≡◌}
-use Rattle.rows.specs.Rows.{groups_written}
+-- The groups of the turns so far are put.
+use Rattle.rows.proofs.Chunks.{Turned}
 use Rattle.rows.proofs.write_row.Given as goal
 
 abbrev pub invariant-loop-x : goal.invariant-loop-x
-invariant-loop-x l = l.store ≡ groups_written l.geometry.shape l.row l.generation l.x l.fn.store
+invariant-loop-x l = Turned l.geometry.shape l.row l.generation l.fn.store l.store l.x-iterator

@@ -4,7 +4,7 @@ use native.Mathlib.Nat.{one-mul}
 use lib.Pow.{pow_mono, pow_pos}
 use Rattle.bits.proofs.Marks.{one_shl}
 use Rattle.cells.specs.Cell.{put}
-use Rattle.simplex.specs.Shape.{banks_of}
+use Rattle.simplex.specs.Shape.{most_symbols, banks_of}
 use Rattle.simplex.specs.Code.{Packet, Sized}
 use Rattle.simplex.specs.Filling.{packets_of, filled, spaced, Room, Fillable}
 use Rattle.simplex.specs.Running.{doubled}
@@ -33,6 +33,10 @@ module _ {k p at step : ℕ} {bytes store : List ℕ} (f : Fillable k p at step 
   twice : suc (banks_of h) + banks_of h ≤ banks_of k
   twice = twice_within h k (banks_of h) l (omega (arith, power))
 
+  -- fewer banks are there than the largest K has
+  below : banks_of h < 2 ^ most_symbols
+  below = let most : 2 ^ k ≤ 2 ^ most_symbols = pow_mono f.symbols.most in omega (arith, twice)
+
   module _ (t : ℕ) (packet : Packet) (now : List ℕ) (there : t ≡ banks_of h) (part : packet ≡ get_or (packets_of p k bytes) h []) where
     -- a step fits the store, since the second bank lies one after the first
     fits : length now ≡ length store → (length packet ≤ step) × (step ≤ length now) × (spaced at step (suc t + t) + length packet ≤ length now)
@@ -60,7 +64,7 @@ pub add_symbol-requires : goal.add_symbol-requires
 add_symbol-requires c =
     let h = c.loop-h.h in
     let l : h < c.args.k = omega arith in
-    fits c.requires h l _ _ c.loop-h.store (count c.requires h l) (packet_part c.args.p c.args.k c.args.packets.now h l) c.loop-h.auto.store
+    record { below = rw (count c.requires h l) (below c.requires h l); room = fits c.requires h l _ _ c.loop-h.store (count c.requires h l) (packet_part c.args.p c.args.k c.args.packets.now h l) c.loop-h.auto.store }
 
 pub loop-h-preserved : goal.loop-h-preserved
 loop-h-preserved c =

@@ -5,4 +5,4 @@ use Rattle.simplex.specs.Filling.{packets_of, filled, spaced}
 use Rattle.simplex.proofs.fill_group.Given as goal
 
 abbrev pub invariant-loop-h : goal.invariant-loop-h
-invariant-loop-h l = l.store ≡ filled l.p (packets_of l.p l.k l.packets) (spaced l.at l.step) (banks_of l.h) l.fn.store
+invariant-loop-h l = l.store ≡ filled l.p (packets_of l.p l.k l.packets) (spaced l.banks.at l.banks.step) (banks_of l.h) l.fn.store

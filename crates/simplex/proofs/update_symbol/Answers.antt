@@ -18,10 +18,6 @@ module _ {k P i at step : ℕ} {store : List ℕ} (u : Updatable k P i at step s
   power : 1 * 2 ^ i % 2 ^ 64 ≡ 2 ^ i
   power = one_shl i 64 (omega (arith, u.symbol, u.symbols.most))
 
-  -- where the systematic bank lies
-  old_place : at + (1 * 2 ^ i % 2 ^ 64 - 1) * step ≡ spaced at step (2 ^ i)
-  old_place = ap (spaced at step) power
-
   systematic : 2 ^ i ≤ banks_of k
   systematic = systematic_bank k i u.symbol
 
@@ -35,8 +31,13 @@ module _ {k P i at step : ℕ} {store : List ℕ} (u : Updatable k P i at step s
   room : Room P (spaced at step) (banks_of k) (length store)
   room = spaced_room P at step (banks_of k) (length store) u.step_size u.last
 
-  within : at + (1 * 2 ^ i % 2 ^ 64 - 1) * step + P ≤ length store
-  within = omega (arith, old_place, room.within (2 ^ i) (pow_pos i) systematic)
+  -- where the systematic bank lies: within the store
+  module _ (old : ℕ) (is : old ≡ spaced at step (1 * 2 ^ i % 2 ^ 64)) where
+    old_place : old ≡ spaced at step (2 ^ i)
+    old_place = is ∙ ap (spaced at step) power
+
+    within : old + P ≤ length store
+    within = omega (arith, old_place, room.within (2 ^ i) (pow_pos i) systematic)
 
 -- a turn, by the bank's bit
 module _ {k i at step : ℕ} {packet store : List ℕ} (u : Updatable k (length packet) i at step store) (b : ℕ) (now next : List ℕ)
@@ -48,28 +49,28 @@ module _ {k i at step : ℕ} {packet store : List ℕ} (u : Updatable k (length 
       rw is
       (turned_more (length packet) i packet (spaced at step) refl (banks_of k) (systematic u) store (room u) (b - 1) b now (omega arith) (omega arith) most same before)
 
-  turned_held : true ≡ has_symbol b i
-      → next ≡ put now (spaced at step b) (xor_bytes (cell now (spaced at step b) (length packet)) (xor_bytes (cell now (at + (1 * 2 ^ i % 2 ^ 64 - 1) * step) (length packet)) packet))
+  turned_held : (old own : ℕ) → old ≡ spaced at step (1 * 2 ^ i % 2 ^ 64) → own ≡ spaced at step b → true ≡ has_symbol b i
+      → next ≡ put now own (xor_bytes (cell now own (length packet)) (xor_bytes (cell now old (length packet)) packet))
       → Turned (length packet) i packet (spaced at step) store b next
-  turned_held held is = turned (is ∙ rw (old_place u, sym held))
+  turned_held old own first here held is = turned (is ∙ rw (old_place u old first, here, sym held))
 
   turned_other : false ≡ has_symbol b i → next ≡ now → Turned (length packet) i packet (spaced at step) store b next
   turned_other other is = turned (is ∙ rw (sym other))
 
-pub overflow_mul-old : goal.overflow_mul-old
-overflow_mul-old c = omega (arith, within c.requires)
-
-pub overflow_add-old : goal.overflow_add-old
-overflow_add-old c = omega (arith, within c.requires)
+pub place_of-old-requires : goal.place_of-old-requires
+place_of-old-requires c =
+    let power = power c.requires in
+    let room = (room c.requires).within (2 ^ c.args.i) (pow_pos c.args.i) (systematic c.requires) in
+    (omega (arith, power, pow_pos c.args.i), rw power (omega (arith, room)))
 
 pub copy_into-requires : goal.copy_into-requires
-copy_into-requires c = omega (arith, within c.requires)
+copy_into-requires c = omega (arith, within c.requires _ c.place_of-old.ensures)
 
 pub loop-b-init : goal.loop-b-init
 loop-b-init c =
     let first : 1 * 2 ^ c.args.i % 2 ^ 64 + 1 - 1 ≡ 2 ^ c.args.i = omega (arith, power c.requires) in
     rw first
-    (turned_first (length c.args.packet.now) c.args.i c.args.packet.now (spaced c.args.at c.args.step) refl (banks_of c.args.k) (systematic c.requires) c.args.store.now (room c.requires))
+    (turned_first (length c.args.packet.now) c.args.i c.args.packet.now (spaced c.args.banks.at c.args.banks.step) refl (banks_of c.args.k) (systematic c.requires) c.args.store.now (room c.requires))
 
 pub loop-b-preserved : goal.loop-b-preserved
 loop-b-preserved c =
@@ -78,7 +79,7 @@ loop-b-preserved c =
     let most : c.loop-b.b ≤ banks_of c.args.k = omega (arith, banks_of_lem c.args.k c.group_of-b-end.ensures) in
     rw next
     (elim c.if-is_marked.branch [
-      | then-is_marked w ↦ turned_held c.requires _ _ _ behind most c.loop-b.auto.store c.loop-b.invariant w.if-is_marked.ensures (w.store-is ∙ w.xor_into.ensures)
+      | then-is_marked w ↦ turned_held c.requires _ _ _ behind most c.loop-b.auto.store c.loop-b.invariant _ _ c.place_of-old.ensures w.place_of.ensures w.if-is_marked.ensures (w.store-is ∙ w.xor_into.ensures)
       | else-is_marked w ↦ turned_other c.requires _ _ _ behind most c.loop-b.auto.store c.loop-b.invariant w.if-is_marked.ensures w.store-is
     ])
 
@@ -87,7 +88,7 @@ returns c =
     let banks = banks_of_lem c.args.k c.group_of-b-end.ensures in
     let end = c.loop-b.auto.b-end (omega (arith, banks, power c.requires, one_behind c.requires)) in
     let behind : 2 ^ c.args.i < c.loop-b.b = omega (arith, power c.requires) in
-    let place = spaced c.args.at c.args.step in
+    let place = spaced c.args.banks.at c.args.banks.step in
     let all : Turned (length c.args.packet.now) c.args.i c.args.packet.now place c.args.store.now (banks_of c.args.k) c.loop-b-test.store =
     elim c.loop-b-test.branch [
       | else-loop-b-test w ↦
@@ -97,8 +98,8 @@ returns c =
           let last : c.loop-b.b ≡ banks_of c.args.k = omega (arith, banks, end, w.loop-b-test.true) in
           rw (w.store-is, ← last)
           (elim w.if-is_marked.branch [
-            | then-is_marked w' ↦ turned_held c.requires _ _ _ behind (omega (arith, last)) c.loop-b.auto.store c.loop-b.invariant w'.if-is_marked.ensures (w'.store-is ∙ w'.xor_into.ensures)
+            | then-is_marked w' ↦ turned_held c.requires _ _ _ behind (omega (arith, last)) c.loop-b.auto.store c.loop-b.invariant _ _ c.place_of-old.ensures w'.place_of.ensures w'.if-is_marked.ensures (w'.store-is ∙ w'.xor_into.ensures)
             | else-is_marked w' ↦ turned_other c.requires _ _ _ behind (omega (arith, last)) c.loop-b.auto.store c.loop-b.invariant w'.if-is_marked.ensures w'.store-is
           ])
     ] in
-    c.copy_into.ensures ∙ ap (λ (n : ℕ). put c.loop-b-test.store n c.args.packet.now) (old_place c.requires) ∙ all.changed
+    c.copy_into.ensures ∙ ap (λ (n : ℕ). put c.loop-b-test.store n c.args.packet.now) (old_place c.requires _ c.place_of-old.ensures) ∙ all.changed

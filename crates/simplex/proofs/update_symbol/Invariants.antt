@@ -5,4 +5,4 @@ use Rattle.simplex.proofs.Updating.{Turned}
 use Rattle.simplex.proofs.update_symbol.Given as goal
 
 abbrev pub invariant-loop-b : goal.invariant-loop-b
-invariant-loop-b l = Turned (length l.packet) l.i l.packet (spaced l.at l.step) l.fn.store (l.b - 1) l.store
+invariant-loop-b l = Turned (length l.packet) l.i l.packet (spaced l.banks.at l.banks.step) l.fn.store (l.b - 1) l.store

@@ -1,13 +1,9 @@
 -- Each turn puts the two digits of its byte.
 use Rattle.std.proofs.Common.{arith, ◌*◌, ◌∙◌}
-use Rattle.cells.proofs.Cells.{put_none}
 use Rattle.cells.proofs.Turns.{put_all}
 use Rattle.lines.specs.Hex.{digits_of}
 use Rattle.lines.proofs.Digits.{length_digits, digit_at, put_two}
 use Rattle.lines.proofs.hex.encode.Goals as goal
-
-pub loop-i-init : goal.loop-i-init
-loop-i-init c = put_none _ _
 
 pub loop-i-preserved : goal.loop-i-preserved
 loop-i-preserved c =
