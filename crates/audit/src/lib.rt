@@ -65,7 +65,7 @@ fn toggle_bank(set: u64, b: usize) -> u64
 }
 
 // Whether the bytes, two for each read, are a plan for the counts. Bank b is marked in `used` where a pair before the one at hand opens it.
-// K and the counts still come apart: a type for a judged request would have no use but this one call of `audit`.
+// K and the counts come apart, as in the definitions; what the planner needs of a judged request besides, its own type keeps.
 #[tactic(auto, using(crate::proofs::Pairs::second_below))]
 fn audit_pairs(k: usize, counts: [usize; MOST_SYMBOLS], bytes: &[u8]) -> bool
     requires symbols_in_range { SymbolsInRange k }

@@ -9,7 +9,7 @@ use crate::memories::filled;
 use crate::show::{UNTOUCHED, print_answer, show_read};
 use layout::{Geometry, MOST_GROUPS, Shape};
 use memory::State;
-use simplex::{MOST_PAIRS, MOST_SYMBOLS};
+use simplex::{LEAST_SYMBOLS, MOST_PAIRS, MOST_SYMBOLS};
 use std::{array, io};
 
 const ROWS: usize = 4;
@@ -23,7 +23,7 @@ const GENERATION: usize = MOST_GROUPS * MOST_SYMBOLS * BYTES;
 
 const READS: usize = MOST_GROUPS * MOST_PAIRS + 1;
 
-// A memory with this geometry and limit.
+// A memory: its geometry, the most reads of a group in a cycle, its state and its store.
 #[derive(Clone, Copy, Debug, PartialEq, Eq)]
 struct Memory<'a> {
     geometry: Geometry,
@@ -164,7 +164,7 @@ fn geometry_of(k: usize) -> Geometry
 
 // The cycles of one K.
 #[tactic(auto, using(simplex::proofs::Tables::limit_most))]
-pub fn run(rt: &impl Print, k: usize) -> io::Result<()>
+fn show_cycles(rt: &impl Print, k: usize) -> io::Result<()>
     requires { SymbolsInRange k }
 {
     println!(rt; "K {k}")?;
@@ -186,4 +186,12 @@ pub fn run(rt: &impl Print, k: usize) -> io::Result<()>
         store,
     };
     memory.show(rt)
+}
+
+// The cycles of every K.
+pub fn run(rt: &impl Print) -> io::Result<()> {
+    for k in LEAST_SYMBOLS..=MOST_SYMBOLS {
+        show_cycles(rt, k)?;
+    }
+    Ok(())
 }

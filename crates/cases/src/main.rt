@@ -178,7 +178,8 @@ fn counts_of(x: usize, base: usize) -> [usize; MOST_SYMBOLS]
 }
 
 // Every request of k symbols that totals at most one read more than the limit. They are among those whose counts are each at most that.
-fn run(rt: &impl Print, k: usize) -> io::Result<()>
+// K comes alone, here and to the cycles, since the program goes over the range itself.
+fn show_requests(rt: &impl Print, k: usize) -> io::Result<()>
     requires { SymbolsInRange k }
 {
     let most = simplex::group_of(k).limit + 1;
@@ -244,15 +245,14 @@ fn show_lines(rt: &impl Print, requests: &[u8]) -> io::Result<()> {
 }
 
 fn main(rt: HostRuntime) -> io::Result<()> {
+    // With room for any text, and a length: no heap is asked for.
     let mut text = [0; MOST_REQUESTS];
     let len = lines::input::read_text(rt.reader(), &mut text)?;
     show_lines(&rt, &text[..len])?;
     for k in LEAST_SYMBOLS..=MOST_SYMBOLS {
-        run(&rt, k)?;
+        show_requests(&rt, k)?;
     }
-    for k in LEAST_SYMBOLS..=MOST_SYMBOLS {
-        cycles::run(&rt, k)?;
-    }
+    cycles::run(&rt)?;
     refused::run(&rt)?;
     sets::run(&rt)?;
     updates::run(&rt)

@@ -11,9 +11,8 @@ pub struct Memory<const N: usize> {
 
 // Sets up a memory of this shape over a store, and writes generations to rows.
 pub fn filled(store: &mut [u8], shape: Shape, rows: &[(usize, &[u8])]) -> State {
-    let Shape { k, m, p, g } = shape;
     rows.iter().fold(
-        State::set_up(k, m, p, g).state,
+        State::set_up(shape).state,
         |state, (row, generation)| state.write(store, *row, generation).state,
     )
 }

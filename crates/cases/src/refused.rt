@@ -1,10 +1,20 @@
 // A small memory: its whole store, and the refusals that no session meets (5, 6 and 16), each where later numbers apply too. It has K = 2, two groups,
 // packets of one byte and two rows. Last, the refusals of an audit. tools/cases.py has the answers by the words of the rules.
+ghost use Rattle.std.specs.Prelude.{◌≤◌};
+
 use crate::memories::Memory;
 use crate::show::{UNTOUCHED, print_answer, print_store, show_read};
+use layout::Shape;
 use memory::State;
 use simplex::MOST_SYMBOLS;
 use std::io;
+
+const SHAPE: Shape = Shape {
+    k: 2,
+    m: 2,
+    p: 1,
+    g: 2,
+};
 
 const STORE: usize = 12;
 
@@ -14,7 +24,7 @@ const SHORT_GENERATION: [u8; 3] = [0; 3];
 // Both rows full, the writes of which are shown.
 fn filled(rt: &impl Print) -> io::Result<Memory<STORE>> {
     let mut store = [0; STORE];
-    let new = State::set_up(2, 2, 1, 2);
+    let new = State::set_up(SHAPE);
     let first = new.state.write(&mut store, 0, &[0x01, 0x02, 0x04, 0x08]);
     print_answer(rt, first)?;
     let second = first.state.write(&mut store, 1, &[0x10, 0x20, 0x40, 0x80]);
@@ -26,32 +36,26 @@ fn filled(rt: &impl Print) -> io::Result<Memory<STORE>> {
 
 // No operation that is shown on a memory changes its store.
 impl Memory<STORE> {
-    // A write of a generation that is too short.
-    fn show_write(mut self, rt: &impl Print, row: usize) -> io::Result<()> {
-        let outcome = self.state.write(&mut self.store, row, &SHORT_GENERATION);
+    // A write of a generation that is too short, with the first `size` bytes of the store.
+    fn show_write(self, rt: &impl Print, size: usize, row: usize) -> io::Result<()>
+        requires { size ≤ STORE }
+    {
+        let Memory { state, mut store } = self;
+        let outcome = state.write(&mut store[..size], row, &SHORT_GENERATION);
         print_answer(rt, outcome)?;
-        print_store(rt, &self.store)
-    }
-
-    // The same to row 2, in a store that is a byte short.
-    fn show_short_write(mut self, rt: &impl Print) -> io::Result<()> {
-        let outcome = self
-            .state
-            .write(&mut self.store[..STORE - 1], 2, &SHORT_GENERATION);
-        print_answer(rt, outcome)?;
-        print_store(rt, &self.store)
+        print_store(rt, &store)
     }
 
     // To row 2, which is not there: 5, 6, 7. To a full row: 8. To an empty one: 10.
     fn show_writes(self, rt: &impl Print) -> io::Result<()> {
-        self.broken().show_short_write(rt)?;
-        self.show_short_write(rt)?;
-        self.show_write(rt, 2)?;
-        self.show_write(rt, 1)?;
+        self.broken().show_write(rt, STORE - 1, 2)?;
+        self.show_write(rt, STORE - 1, 2)?;
+        self.show_write(rt, STORE, 2)?;
+        self.show_write(rt, STORE, 1)?;
         let released = self.state.release(1);
         print_answer(rt, released)?;
         let state = released.state;
-        Memory { state, ..self }.show_write(rt, 1)
+        Memory { state, ..self }.show_write(rt, STORE, 1)
     }
 
     // A release of a row that is not there: 5, 7. Of an empty row: 9.

@@ -1,5 +1,7 @@
 // Updates of packets: a memory with K = 3, two groups, packets of two bytes and two rows, and its whole store after each. tools/cases.py has the answers
 // and the stores by the words of the request.
+ghost use Rattle.std.specs.Prelude.{◌≤◌};
+
 use crate::memories::{Memory, filled};
 use crate::show::{UNTOUCHED, print_answer, print_outcome, print_store, show_read};
 use layout::{PacketName, Shape};
@@ -24,19 +26,21 @@ const GENERATIONS: [[u8; 12]; 2] = [
 ];
 
 impl Memory<STORE> {
-    // An update: shows the answer, the rows that are full then, as marks, and the store.
-    fn show_update(&mut self, rt: &impl Print, name: PacketName, packet: &[u8]) -> io::Result<()> {
-        print_outcome(rt, self.state.update(&mut self.store, name, packet))?;
-        print_store(rt, &self.store)
-    }
-
-    // An update by a packet of one byte, in a store that is a byte short.
-    fn show_short_store(&mut self, rt: &impl Print, name: PacketName) -> io::Result<()> {
-        let outcome = self
-            .state
-            .update(&mut self.store[..STORE - 1], name, &[0xff]);
-        print_outcome(rt, outcome)?;
-        print_store(rt, &self.store)
+    // An update in the first `size` bytes of the store: shows the answer, the rows that are full then, as marks, and the store.
+    fn show_update(
+        &mut self,
+        rt: &impl Print,
+        size: usize,
+        name: PacketName,
+        packet: &[u8],
+    ) -> io::Result<()>
+        requires { size ≤ STORE }
+    {
+        // A copy of the store, since a part of a field cannot be lent.
+        let Memory { state, mut store } = *self;
+        print_outcome(rt, state.update(&mut store[..size], name, packet))?;
+        self.store = store;
+        print_store(rt, &store)
     }
 
     // In row 2, group 2, symbol 3, which are not there, with a packet of one byte: 5 with a broken state, 6 with a store that is a byte short, 7; with row 1:
@@ -46,18 +50,18 @@ impl Memory<STORE> {
         let no_group = PacketName::from([1, 2, 3]);
         let no_symbol = PacketName::from([1, 1, 3]);
         let there = PacketName::from([1, 1, 1]);
-        self.broken().show_short_store(rt, no_row)?;
-        self.show_short_store(rt, no_row)?;
-        self.show_update(rt, no_row, &[0xff])?;
-        self.show_update(rt, no_group, &[0xff])?;
-        self.show_update(rt, no_symbol, &[0xff])?;
-        self.show_update(rt, there, &[0xff])?;
-        self.show_update(rt, there, &[0xff, 0xff, 0xff])?;
+        self.broken().show_update(rt, STORE - 1, no_row, &[0xff])?;
+        self.show_update(rt, STORE - 1, no_row, &[0xff])?;
+        self.show_update(rt, STORE, no_row, &[0xff])?;
+        self.show_update(rt, STORE, no_group, &[0xff])?;
+        self.show_update(rt, STORE, no_symbol, &[0xff])?;
+        self.show_update(rt, STORE, there, &[0xff])?;
+        self.show_update(rt, STORE, there, &[0xff, 0xff, 0xff])?;
         let released = self.state.release(1);
         print_answer(rt, released)?;
         self.state = released.state;
-        self.show_update(rt, no_symbol, &[0xff])?;
-        self.show_update(rt, there, &[0xff])
+        self.show_update(rt, STORE, no_symbol, &[0xff])?;
+        self.show_update(rt, STORE, there, &[0xff])
     }
 }
 
@@ -70,8 +74,8 @@ pub fn run(rt: &impl Print) -> io::Result<()> {
     let state = filled(&mut store, SHAPE, &[(0, first), (1, second)]);
     let mut memory = Memory { state, store };
     memory.show_refused_updates(rt)?;
-    memory.show_update(rt, PacketName::from([1, 1, 1]), &[0xab, 0xcd])?;
-    memory.show_update(rt, PacketName::from([0, 0, 2]), &[0x00, 0xff])?;
+    memory.show_update(rt, STORE, PacketName::from([1, 1, 1]), &[0xab, 0xcd])?;
+    memory.show_update(rt, STORE, PacketName::from([0, 0, 2]), &[0x00, 0xff])?;
     show_read(
         rt,
         memory.state,
@@ -83,5 +87,5 @@ pub fn run(rt: &impl Print) -> io::Result<()> {
     memory.store = [0x5a; STORE];
     memory.store[28] = 0x11;
     memory.store[37] = 0x22;
-    memory.show_update(rt, PacketName::from([0, 1, 0]), &[0x0f, 0xf0])
+    memory.show_update(rt, STORE, PacketName::from([0, 1, 0]), &[0x0f, 0xf0])
 }

@@ -47,6 +47,7 @@ pub fn answer(
 
 // Answers what standard input has.
 pub fn run(rt: &(impl Input + Print)) -> io::Result<()> {
+    // With room for any text, and a length: no heap is asked for.
     let mut text = [0; MOST_TEXT];
     let mut store = [0; MOST_STORE];
     let len = lines::input::read_text(rt.reader(), &mut text)?;

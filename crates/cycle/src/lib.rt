@@ -79,8 +79,8 @@ fn begin_groups(geometry: Geometry, reads: &[u8]) -> Result<[GroupReads; MOST_GR
 {
     let counts = reads::count_reads(reads);
     let mut groups = [GroupReads::default(); MOST_GROUPS];
-    // Written by number: a proof knows nothing of what a `zip` over `groups.iter_mut()` has written, and a refusal by `array::try_from_fn` is that of some
-    // group, not of the lowest.
+    // Written by number: a proof knows nothing of what a `zip` over `groups.iter_mut()` has written, and of a refusal by `array::try_from_fn` its
+    // contract says only that it is some group's.
     for (x, own) in counts[..geometry.shape.m].iter().enumerate() {
         groups[x] = begin_group(geometry, *own).map_err(|refusal| Refusal {
             place: x,

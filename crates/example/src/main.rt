@@ -19,6 +19,14 @@ const G: usize = 2;
 // The banks of the group.
 const BANKS: usize = (1 << K) - 1;
 
+// The memory's shape.
+const SHAPE: Shape = Shape {
+    k: K,
+    m: 1,
+    p: P,
+    g: G,
+};
+
 // The bytes of the store.
 const STORE: usize = BANKS * G * P;
 
@@ -57,13 +65,7 @@ fn print_answer(rt: &impl Print, outcome: Outcome) -> io::Result<()> {
 // What each bank holds in the row.
 #[tactic(auto, unfolding(layout::specs::Shape::store_size))]
 fn print_banks(rt: &impl Print, bytes: &[u8; STORE]) -> io::Result<()> {
-    let shape = Shape {
-        k: K,
-        m: 1,
-        p: P,
-        g: G,
-    };
-    let geometry = Geometry { shape };
+    let geometry = Geometry { shape: SHAPE };
     let store = Store { geometry, bytes };
     for bank in 1..=BANKS {
         // `as`, since u32 has no From<usize>.
@@ -94,40 +96,49 @@ fn print_reads(
     Ok(())
 }
 
-// Reads a list in one cycle, and prints the answer.
-fn read(
-    rt: &impl Print,
+// The memory that is read: its state, and its store.
+#[derive(Clone, Copy, Debug, PartialEq, Eq)]
+struct Memory<'a> {
     state: State,
-    store: &[u8],
-    reads: &[[u8; 3]],
-    out: &mut [[u8; P]],
-    schedule: &mut [[u8; 2]],
-) -> io::Result<()> {
-    print!(rt; "cycle of {} reads: ", reads.len())?;
-    let outcome = state.read_cycle(
-        store,
-        reads.as_flattened(),
-        out.as_flattened_mut(),
-        schedule.as_flattened_mut(),
-    );
-    print_answer(rt, outcome)
+    store: &'a [u8; STORE],
 }
 
-// A cycle of eight reads: what it puts out.
-fn print_cycle(rt: &impl Print, state: State, store: &[u8], reads: &[[u8; 3]]) -> io::Result<()> {
-    let mut out = [[0; P]; READS];
-    let mut schedule = [[0; 2]; READS];
-    read(rt, state, store, reads, &mut out, &mut schedule)?;
-    print_reads(rt, reads, &out, &schedule)
-}
+impl Memory<'_> {
+    // Reads a list in one cycle, and prints the answer.
+    fn read(
+        self,
+        rt: &impl Print,
+        reads: &[[u8; 3]],
+        out: &mut [[u8; P]],
+        schedule: &mut [[u8; 2]],
+    ) -> io::Result<()> {
+        print!(rt; "cycle of {} reads: ", reads.len())?;
+        let Memory { state, store } = self;
+        let outcome = state.read_cycle(
+            store,
+            reads.as_flattened(),
+            out.as_flattened_mut(),
+            schedule.as_flattened_mut(),
+        );
+        print_answer(rt, outcome)
+    }
 
-// Of nine reads (row, group, symbol), two of each packet of the row and packet 0 once more, the first eight, and all.
-fn print_cycles(rt: &impl Print, state: State, store: &[u8]) -> io::Result<()> {
-    let reads = [0, 0, 1, 1, 2, 2, 3, 3, 0].map(|symbol| [ROW, 0, symbol]);
-    let mut out = [[0; P]; READS + 1];
-    let mut schedule = [[0; 2]; READS + 1];
-    print_cycle(rt, state, store, &reads[..READS])?;
-    read(rt, state, store, &reads, &mut out, &mut schedule)
+    // A cycle of eight reads: what it puts out.
+    fn print_cycle(self, rt: &impl Print, reads: &[[u8; 3]]) -> io::Result<()> {
+        let mut out = [[0; P]; READS];
+        let mut schedule = [[0; 2]; READS];
+        self.read(rt, reads, &mut out, &mut schedule)?;
+        print_reads(rt, reads, &out, &schedule)
+    }
+
+    // Of nine reads (row, group, symbol), two of each packet of the row and packet 0 once more, the first eight, and all.
+    fn print_cycles(self, rt: &impl Print) -> io::Result<()> {
+        let reads = [0, 0, 1, 1, 2, 2, 3, 3, 0].map(|symbol| [ROW, 0, symbol]);
+        let mut out = [[0; P]; READS + 1];
+        let mut schedule = [[0; 2]; READS + 1];
+        self.print_cycle(rt, &reads[..READS])?;
+        self.read(rt, &reads, &mut out, &mut schedule)
+    }
 }
 
 fn main(rt: HostRuntime) -> io::Result<()> {
@@ -137,7 +148,7 @@ fn main(rt: HostRuntime) -> io::Result<()> {
     let row = usize::from(ROW);
     let packets = *b"northeast.southwest.";
     let mut store = [0; STORE];
-    let new = State::set_up(K, 1, P, G);
+    let new = State::set_up(SHAPE);
     let written = new.state.write(&mut store, row, &packets);
     print!(&rt; "write to row {row}: ")?;
     print_answer(&rt, written)?;
@@ -145,7 +156,11 @@ fn main(rt: HostRuntime) -> io::Result<()> {
     print!(&rt; "write to row {row}: ")?;
     print_answer(&rt, again)?;
     print_banks(&rt, &store)?;
-    print_cycles(&rt, again.state, &store)?;
+    let memory = Memory {
+        state: again.state,
+        store: &store,
+    };
+    memory.print_cycles(&rt)?;
     let released = again.state.release(row);
     print!(&rt; "release of row {row}: ")?;
     print_answer(&rt, released)

@@ -21,7 +21,7 @@ pub const MOST_STORE: usize = 16384;
 pub const MOST_OUTPUT: usize = 2 * (2 + MOST_STORE) + 1;
 
 // A frame, by its first byte; unknown where that or its length is wrong. The packets of a write and the reads of a cycle are the bytes behind
-// these fields. The unknown ones are a kind of their own, since the project's rules name this form.
+// these fields, which the caller holds: a frame borrows nothing. The unknown ones are a kind of their own, since the project's rules name this form.
 #[derive(Clone, Copy, Debug, PartialEq, Eq)]
 pub enum Frame {
     SetUp(Shape),
@@ -77,7 +77,7 @@ pub fn frame_of(bytes: &[u8]) -> Frame
     }
 }
 
-// Prints bytes as a line. Gives its length, here and below, and no slice of the array: it is the caller's, since no heap is asked for.
+// Prints bytes as a line, to the front of the caller's array, since no heap is asked for. Gives its length, here and below: `Prints` speaks of the whole array.
 #[tactic(auto, using(crate::proofs::Printing::length_printed, crate::proofs::Printing::put_printed))]
 pub fn print_line(bytes: &[u8], out: &mut [u8]) -> usize
     requires { 2 * length bytes.now + 1 ≤ length out.old }

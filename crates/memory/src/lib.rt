@@ -83,12 +83,13 @@ fn judge_rows(reason: Reason, set: u64, within: u64) -> Verdict
 
 impl State {
     // Sets up a memory with every row empty, or refuses the shape: 1 to 4.
-    pub fn set_up(k: usize, m: usize, p: usize, g: usize) -> SetUp
-        ensures { result ≡ set_up_of (record { k = k; m = m; p = p; g = g }) }
+    pub fn set_up(shape: Shape) -> SetUp
+        ensures { result ≡ set_up_of shape }
     {
-        let shape = Shape { k, m, p, g };
         let verdict = layout::judge_shape(shape);
-        let state = verdict.map_or(State::default(), |()| State { shape, full: 0 });
+        let state = verdict
+            .map(|()| State { shape, full: 0 })
+            .unwrap_or_default();
         SetUp { state, verdict }
     }
 

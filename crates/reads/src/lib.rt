@@ -33,7 +33,7 @@ pub fn judge_packet(geometry: Geometry, full: u64, name: PacketName, place: usiz
 }
 
 // The first refusal of a read: 7, 14, 15, 9, its place being the read's.
-// A list comes as its bytes, here and to the functions below and above, and each cuts it in reads: any bytes may come in, and the definitions are of them.
+// A list comes as its bytes, here, to `count_reads` and to a cycle, and each cuts it in reads: any bytes may come in, and the definitions are of them.
 pub fn judge_reads(geometry: Geometry, full: u64, reads: &[u8]) -> Verdict
     ensures { result ≡ first_refusal (read_refusal geometry.shape (marked full) reads.now) (read_count reads.now) }
 {

@@ -25,7 +25,8 @@ fn spacing_of(geometry: Geometry, x: usize, row: usize) -> Spacing
     }
 }
 
-// Sets the cells of all banks of all groups in a row, from a generation.
+// Sets the cells of all banks of all groups in a row, from a generation. The store comes beside its geometry, here and below, and not in a struct with it: what a
+// struct with a `&mut` leaves in the store, a clause could say only as `exit`.
 #[tactic(auto, using(crate::proofs::Chunks::begun))]
 pub fn write_row(store: &mut [u8], geometry: Geometry, row: usize, generation: &[u8])
     requires place { row < geometry.shape.g }

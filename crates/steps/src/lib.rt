@@ -27,7 +27,8 @@ const MOST_SCHEDULE: usize = MOST_FRAME / 3 * 2;
 pub type Session = Option<State>;
 
 // What a line gives, or a text: the session, and how long its output is. A session goes into a step by value and comes back from it, since the
-// project's rules name this form for a state. The output stands in the caller's array, since no heap is asked for, and the length is all there is of it here.
+// project's rules name this form for a state. The output stands in the caller's array, since no heap is asked for: the
+// length says how much of the array it is, as `Prints` does.
 #[derive(Clone, Copy, Debug, PartialEq, Eq)]
 pub struct Reply {
     pub session: Session,
@@ -65,7 +66,7 @@ fn answer(
     Reply { session, len }
 }
 
-// How many bytes of the session's store a memory of this shape is lent: as many as it needs, if there are so many.
+// How many bytes of the session's store a memory of this shape is lent: as many as it needs, if there are so many; of no memory's shape, none.
 #[tactic(auto, unfolding(crate::specs::Parts::lent_size))]
 fn lent_size(shape: Shape) -> usize
     ensures { result ≡ min (lent_size shape) most_store }
@@ -106,7 +107,7 @@ fn try_set_up(
     // `as` is proved to lose nothing, and no `From` narrows.
     let bytes = [first, 0, (shape.m * group.banks) as u8, group.limit as u8];
     let len = frames::print_line(&bytes, out);
-    let made = State::set_up(shape.k, shape.m, shape.p, shape.g);
+    let made = State::set_up(shape);
     Ok(Reply {
         session: Some(made.state),
         len,
@@ -151,6 +152,7 @@ fn do_read(
     requires { length reads.now < most_frame }
     ensures { Gives (operation_done (Running state) store.now 4 (cycle_of reads.now)) out.old result store.now out.new }
 {
+    // With room for any list, and a length: no heap is asked for.
     let mut packets = [0u8; MOST_STORE];
     let mut schedule = [0u8; MOST_SCHEDULE];
     let count = reads.len() / 3;
@@ -182,7 +184,7 @@ fn try_frame(
     requires { (1 ≤ length bytes.now) × (length bytes.now ≤ most_frame) }
     ensures { let frame = frame_of bytes.now in Tries (frame_done session store.old bytes.now frame) session store.old out.old (first_byte frame) result store.new out.new }
 {
-    // By kind and memory at once: the project's rules name this form.
+    // By kind, as the project's rules name this form; and by the memory, for 19.
     match (frames::frame_of(bytes), session) {
         (Frame::SetUp(shape), _) => try_set_up(shape, store, out),
         (Frame::Write(row), Some(state)) => Ok(do_write(state, row, &bytes[2..], store, out)),
