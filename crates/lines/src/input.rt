@@ -1,18 +1,33 @@
 // Reads a text into a buffer, from standard input or another reader.
-ghost use Rattle.std.specs.Prelude.{◌≡◌, ◌≤◌, length, min, IfOk, IfSome};
+ghost use Rattle.std.specs.Prelude.{◌≡◌, ◌≢◌, ◌≤◌, length, min, drop, IfOk, IfErr, IfSome};
+ghost use Rattle.std.specs.IoError.{error_kind};
+ghost use Rattle.cells.specs.Cell.{put};
 
-use std::io;
-use std::io::Read;
+use std::io::{self, ErrorKind, Read};
 
-// Reads what a reader has to the front of `text`, as much as there is room for. Gives how many bytes that is.
+// Reads what a reader has to the front of `text`, as much as there is room for. Gives how many bytes that is; those behind them
+// stay. Where it fails, any byte of `text` may have been set.
 pub fn read_text<R: Read + Drop>(reader: R, text: &mut [u8]) -> io::Result<usize>
     ensures room { IfOk result (λ n. n ≤ length text.old) }
-    ensures all { IfOk result (λ n. IfSome (R.remaining reader) (λ bytes. n ≡ min (length text.old) (length bytes))) }
+    ensures rest { IfOk result (λ n. drop n text.new ≡ drop n text.old) }
+    ensures all { IfOk result (λ n. IfSome (R.remaining reader) (λ bytes. (n ≡ min (length text.old) (length bytes)) × (text.new ≡ put text.old 0 bytes))) }
+    ensures retried { IfErr result (λ e. error_kind e ≢ ErrorKind.Interrupted) }
 {
-    let room = text.len();
-    // `as`, here and below, since u64 and usize are not `From` each other.
-    let mut front = reader.take(room as u64);
-    let len = io::copy(&mut front, &mut &mut *text)? as usize;
-    // `copy` bounds its count only for a reader whose bytes are known, and a proof knows nothing of what it writes to a slice.
-    Ok(len.min(room))
+    // `as`, since u64 and usize are not `From` each other.
+    let mut front = reader.take(text.len() as u64);
+    // Not straight to `text`: a reader may write past the bytes that it gives.
+    let mut chunk = [0; 8192];
+    let mut len = 0;
+    // Not `loop`: a reader may be interrupted without end. `io::copy` gives up so too.
+    for _ in 0..u64::MAX {
+        let n = match front.read(&mut chunk) {
+            Ok(0) => return Ok(len),
+            Ok(n) => n,
+            Err(e) if e.kind() == ErrorKind::Interrupted => continue,
+            Err(e) => return Err(e),
+        };
+        text[len..len + n].copy_from_slice(&chunk[..n]);
+        len += n;
+    }
+    Err(ErrorKind::TimedOut.into())
 }
