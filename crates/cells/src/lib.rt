@@ -1,5 +1,5 @@
 // Functions on bytes: each sets one cell of a slice, or the whole slice. A cell is named by the slice and its place in it, and not lent by itself: two of them read
-// another cell of the same slice, and the definition that all are said by, `put`, is of the whole slice.
+// another cell of the same slice, and `put`, which the promises of all that set a cell are made of, is of the whole slice.
 #![tactic(auto)]
 
 ghost use Rattle.std.specs.Prelude.{◌≡◌, ◌⊎◌, ◌+◌, ◌≤◌, ◌<◌, ℕ, List, length};

@@ -32,7 +32,7 @@ fn value_of(c: u8) -> u8
     requires { is_digit c ≡ true }
     ensures { (result ≡ value_of c) × (result < 16) }
 {
-    // `to_digit`, which takes A to F too, makes reading take twice as long: 90 us for 32,768 digits, and 44 so.
+    // `to_digit`, which takes A to F too, would make reading take twice as long: 90 us for 32,768 digits in place of 44.
     match c {
         b'0'..=b'9' => c - b'0',
         _ => c - b'a' + 10,

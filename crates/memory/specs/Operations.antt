@@ -25,7 +25,7 @@ set_up_of sh = record { state = if_refused zero_state (empty sh) (shape_refusal 
 abbrev pub outcome_by : (before after : State) → Verdict → Outcome
 outcome_by before after verdict = record { state = if_refused before after verdict; answer = answer_by (FullRows (full_rows after)) verdict }
 
--- The same by the state made or the refusal: the rows that are full in it are counted among all that a word has marks for.
+-- The same, from the state that was made or the refusal; its full rows are counted among all that a word has marks for. No public promise cites it.
 abbrev pub outcome_after : (before : State) → Result State Refusal → Outcome
 outcome_after before (Ok after) = record { state = after; answer = Ok (FullRows (how_many (marked after.full) most_rows)) }
 outcome_after before (Err refusal) = record { state = before; answer = Err refusal }

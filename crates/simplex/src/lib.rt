@@ -39,7 +39,7 @@ const GROUPS: [Group; MOST_SYMBOLS - LEAST_SYMBOLS + 1] = [
     },
 ];
 
-// The row of K. What a K in its range is, a `Geometry` keeps above; here and in an audit a bare K comes in.
+// The row of K. K comes as a bare number, since a `Geometry`, which keeps it in its range, is of a layer above, and an audit has none.
 pub fn group_of(k: usize) -> Group
     requires { SymbolsInRange k }
     ensures { result ≡ group_of k }
