@@ -3,7 +3,7 @@ use Rattle.std.specs.Prelude.{◌≡◌, true, List, [], ℕ, ◌^◌, ◌<◌, 
 use Rattle.cells.specs.Cell.{Outside}
 use Rattle.cells.specs.Xor.{xor_bytes}
 use Rattle.simplex.specs.Code.{bank_cell}
-use Rattle.simplex.specs.Updating.{has_symbol}
+use Rattle.simplex.specs.Symbols.{has_symbol}
 use Rattle.layout.specs.declared.Shape.{Shape}
 use Rattle.layout.specs.Shape.{store_size, generation_size, CellOf, offset, cell_at}
 use Rattle.rows.specs.Rows.{packets_in, packet_in, group_written, row_written, PacketOf, packet_updated, edited}

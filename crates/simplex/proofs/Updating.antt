@@ -22,9 +22,10 @@ use Rattle.cells.specs.Xor.{xor_bytes}
 use Rattle.cells.proofs.Xors.{comm, left_comm, cancel, xor_back, length_xor}
 use Rattle.cells.proofs.Cells.{length_put, put_swap, length_cell, get_or_cell, cell_put, cell_put_out, get_or_put_out}
 use Rattle.simplex.specs.Shape.{banks_of}
+use Rattle.simplex.specs.Symbols.{has_symbol}
 use Rattle.simplex.specs.Code.{Packet, Sized, bank_cell}
 use Rattle.simplex.specs.Filling.{filled, Room}
-use Rattle.simplex.specs.Updating.{has_symbol, bank_changed, banks_changed, symbol_updated, Changed}
+use Rattle.simplex.specs.Updating.{bank_changed, banks_changed, symbol_updated, Changed}
 use Rattle.simplex.proofs.Banks.{xor_if, cell_cons, cell_one, sized_at}
 use Rattle.simplex.proofs.Filling.{fewer, filled_holds}
 

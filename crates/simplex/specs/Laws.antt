@@ -8,7 +8,8 @@ use Rattle.simplex.specs.Shape.{banks_of, limit_of, degree_of}
 use Rattle.simplex.specs.Code.{Packet, Sized, Content, Banks, bank_cell, xor_of_numbers, Yields}
 use Rattle.simplex.specs.Limit.{Fails}
 use Rattle.simplex.specs.Filling.{packets_of, filled, spaced, Room, Holds, Fillable}
-use Rattle.simplex.specs.Updating.{has_symbol, symbol_updated, Changed}
+use Rattle.simplex.specs.Symbols.{has_symbol}
+use Rattle.simplex.specs.Updating.{symbol_updated, Changed}
 
 -- How many of the banks 1 to n have odd degree.
 abbrev pub odd_banks : ℕ → ℕ

@@ -3,6 +3,7 @@ pub mod Shape
 pub mod Code
 pub mod Limit
 pub mod Filling
+pub mod Symbols
 pub mod Updating
 pub mod Running
 pub mod Laws

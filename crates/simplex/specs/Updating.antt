@@ -1,15 +1,11 @@
 -- One symbol's packet changed in a group's banks in one row of a store.
-use Rattle.std.specs.Prelude.{◌≡◌, Bool, true, cond, List, ℕ, zero, suc, ◌+◌, ◌^◌, ◌≤◌, ◌<◌, length, get_or}
-use Rattle.bits.specs.Marks.{marked}
+use Rattle.std.specs.Prelude.{◌≡◌, true, cond, List, ℕ, zero, suc, ◌+◌, ◌^◌, ◌≤◌, ◌<◌, length, get_or}
 use Rattle.cells.specs.Cell.{cell, put, Outside}
 use Rattle.cells.specs.Xor.{xor_bytes}
 use Rattle.simplex.specs.Shape.{SymbolsInRange, banks_of}
+use Rattle.simplex.specs.Symbols.{has_symbol}
 use Rattle.simplex.specs.Code.{Packet}
 use Rattle.simplex.specs.Filling.{spaced}
-
--- Whether bank b holds symbol i: bit i of its number is 1.
-abbrev pub has_symbol : (b i : ℕ) → Bool
-has_symbol b i = marked b i
 
 -- The store s with `change` XORed into the cell of bank b, at the index `at`, if the bank holds symbol i.
 abbrev pub bank_changed : (P i : ℕ) → (change : Packet) → (b at : ℕ) → List ℕ → List ℕ

@@ -6,8 +6,9 @@ use Rattle.bits.proofs.Marks.{one_shl}
 use Rattle.cells.specs.Cell.{cell, put}
 use Rattle.cells.specs.Xor.{xor_bytes}
 use Rattle.simplex.specs.Shape.{banks_of}
+use Rattle.simplex.specs.Symbols.{has_symbol}
 use Rattle.simplex.specs.Filling.{spaced, Room}
-use Rattle.simplex.specs.Updating.{has_symbol, bank_changed, Updatable}
+use Rattle.simplex.specs.Updating.{bank_changed, Updatable}
 use Rattle.simplex.proofs.Tables.{banks_of_lem}
 use Rattle.simplex.proofs.Filling.{spaced_room}
 use Rattle.simplex.proofs.Updating.{systematic_bank, Turned, turned_first, turned_more}
