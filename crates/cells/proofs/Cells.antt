@@ -2,7 +2,7 @@
 use mathlib.Core.Path.{◌≡◌, refl, sym, ap, ◌∙◌}
 use mathlib.Core.Logic.{◌⊎◌, ⊎_elim}
 use mathlib.Core.List.{List, [], ◌∷◌}
-use Prim.Native.Nat.{ℕ, zero, suc, ◌+◌, ◌-◌, ◌≤◌, ◌<◌}
+use Prim.Native.Nat.{ℕ, zero, suc, ◌+◌, ◌≤◌, ◌<◌}
 use native.Mathlib.Omega.{arith}
 use Rattle.std.specs.Simd.Lanes.{put_chunk}
 use Rattle.std.proofs.lemmas.Simd.{length-put_chunk, get_or-put_chunk_below, get_or-put_chunk_above, get_or-put_chunk_at}
@@ -52,10 +52,6 @@ length_cell s at p h = length-take-le p (drop at s) (rw length-drop (omega arith
 
 pub get_or_cell : (s : List ℕ) (at p j : ℕ) → j < p → get_or (cell s at p) j 0 ≡ get_or s (at + j) 0
 get_or_cell s at p j h = get_or-take p (drop at s) j 0 h ∙ get_or-drop at s j 0
-
--- the part of a slice that is lent from index at to at + p
-pub cell_part : (s : List ℕ) (at p : ℕ) → take (at + p - at) (drop at s) ≡ cell s at p
-cell_part s at p = let e : at + p - at ≡ p = omega arith in rw e
 
 -- a cell of the first n bytes, and of a cell
 cell_take : (s : List ℕ) (n at p : ℕ) → at + p ≤ n → cell (take n s) at p ≡ cell s at p

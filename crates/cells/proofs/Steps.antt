@@ -1,18 +1,14 @@
--- Products that a loop carries along, a step at a time; numbers of two digits to a base, and multiples of a number.
+-- One step more of a product fits; numbers of two digits to a base, and multiples of a number.
 use mathlib.Core.Path.{◌≡◌, refl, sym, ap, ◌∙◌}
 use mathlib.Core.Logic.{◌≢◌, inl, inr}
 use mathlib.Core.Bool.{Bool, true, false}
 use Prim.Native.Nat.{ℕ, ◌+◌, ◌*◌, ◌/◌, ◌%◌, ◌≤◌, ◌<◌}
 use native.Mathlib.Nat.{suc-mul, mul-le-mul_right}
-use native.Mathlib.Numerals.{add-one}
 use native.Mathlib.Omega.{arith}
 use borrow.Author.Tests.{ltb-true, ltb-false}
 use lib.Arith.{digits_div, digits_mod}
 use lib.Dec.{ltb}
 use Rattle.cells.specs.Cell.{Apart}
-
-pub step_more : (n step : ℕ) → (n + 1) * step ≡ n * step + step
-step_more n step = rw (add-one n, suc-mul n step)
 
 pub step_within : (n t step : ℕ) → n < t → n * step + step ≤ t * step
 step_within n t step h = rw (suc-mul n step) at (mul-le-mul_right step h)

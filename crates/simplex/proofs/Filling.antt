@@ -3,13 +3,12 @@ use mathlib.Core.Path.{◌≡◌, refl, sym, ap, ◌∙◌}
 use mathlib.Core.Logic.{inl, ⊎_elim}
 use mathlib.Core.List.{List, []}
 use Prim.Native.Nat.{ℕ, zero, suc, ◌+◌, ◌-◌, ◌*◌, ◌≤◌, ◌<◌}
-use native.Mathlib.Nat.{eq-or-lt_of_le, le_of_suc-le-suc, mul-le-mul_right, add-mul, suc-mul, zero-mul, not-suc-le-zero}
+use native.Mathlib.Nat.{eq-or-lt_of_le, le_of_suc-le-suc, mul-le-mul_right, suc-mul, zero-mul, not-suc-le-zero}
 use native.Mathlib.Omega.{arith}
 use lib.ListN.{length, get_or, take, drop, length-drop}
 use lib.Seq.{length-take-le, drop-drop}
-use Rattle.cells.specs.Cell.{cell, Outside, Apart}
-use Rattle.cells.proofs.Cells.{length_put, cell_part, cell_put, cell_put_out, get_or_put_out}
-use Rattle.cells.proofs.Steps.{step_more}
+use Rattle.cells.specs.Cell.{cell, put, Outside, Apart}
+use Rattle.cells.proofs.Cells.{length_put, cell_put, cell_put_out, get_or_put_out}
 use Rattle.simplex.specs.Shape.{banks_of}
 use Rattle.simplex.specs.Code.{Packet, Sized, bank_cell}
 use Rattle.simplex.specs.Filling.{packets_of, filled, spaced, Room, Holds, Fillable}
@@ -37,10 +36,6 @@ packet_at p (suc k) bytes (suc i) h =
     let e : p + i * p ≡ suc i * p = omega (arith, suc-mul i p) in
     packet_at p k (drop p bytes) i (le_of_suc-le-suc h) ∙ ap (take p) (drop-drop (i * p) p bytes ∙ ap (λ (n : ℕ). drop n bytes) e)
 
--- and as a part that is lent
-pub packet_part : (p k : ℕ) (bytes : List ℕ) (i : ℕ) → i < k → take ((i + 1) * p - i * p) (drop (i * p) bytes) ≡ get_or (packets_of p k bytes) i []
-packet_part p k bytes i h = rw step_more (cell_part bytes (i * p) p ∙ sym (packet_at p k bytes i h))
-
 -- ---- the banks
 
 -- fewer banks have room where more have
@@ -52,6 +47,12 @@ module _ (P : ℕ) (packets : List Packet) (place : ℕ → ℕ) where
   unfolding filled
   length_filled zero s = refl
   length_filled (suc n) s = length_put (filled P packets place n s) (place (suc n)) (bank_cell P packets (suc n)) ∙ length_filled n s
+
+  -- filled up to bank b - 1, and then bank b
+  pub filled_more : (b : ℕ) (s : List ℕ) → 1 ≤ b → put (filled P packets place (b - 1) s) (place b) (bank_cell P packets b) ≡ filled P packets place b s
+  unfolding filled
+  filled_more zero s some = absurd (omega arith)
+  filled_more (suc n) s some = let before : suc n - 1 ≡ n = omega arith in rw before refl
 
   -- placings that agree on banks 1 to n fill alike
   pub filled_same : (other : ℕ → ℕ) (n : ℕ) (s : List ℕ) → ((b : ℕ) → 1 ≤ b → b ≤ n → place b ≡ other b)
@@ -100,15 +101,6 @@ module _ (P : ℕ) (packets : List Packet) (place : ℕ → ℕ) where
     filled_holds n s r = record { size = length_filled n s; banks = filled_bank n s r; others = filled_other n s }
 
 -- ---- banks a step apart
-
-pub spaced_suc : (at step n : ℕ) → spaced at step (suc n) ≡ at + n * step
-spaced_suc at step n = let e : suc n - 1 ≡ n = omega arith in rw e
-
-pub spaced_add : (at step t n : ℕ) → spaced at step (suc t + suc n) ≡ at + t * step + step + n * step
-spaced_add at step t n =
-    let e : suc t + suc n - 1 ≡ suc t + n = omega arith in
-    let m : (suc t + n) * step ≡ t * step + step + n * step = add-mul (suc t) n step ∙ ap (λ (x : ℕ). x + n * step) (suc-mul t step) in
-    ap (λ (x : ℕ). at + x * step) e ∙ omega arith
 
 pub spaced_room : (P at step n size : ℕ) → P ≤ step → spaced at step n + P ≤ size → Room P (spaced at step) n size
 spaced_room P at step n size q fits = record { within = within; rising = rising }

@@ -1,71 +1,162 @@
--- Running XOR gives the code's banks: a bank with highest symbol h is the bank without it XOR packet h.
-use mathlib.Core.Path.{◌≡◌, sym, ap, ap₂, ◌∙◌}
+-- Running XOR gives the code's banks: a bank is the bank without its highest symbol XOR that symbol's packet.
+use mathlib.Core.Path.{◌≡◌, refl, sym, ap, ap₂, ◌∙◌}
+use mathlib.Core.Logic.{◌≢◌, ◌⊎◌, inl, inr, ⊎_elim}
+use mathlib.Core.Bool.{Bool, true, false}
 use mathlib.Core.List.{List, []}
-use Prim.Native.Nat.{ℕ, zero, suc, ◌+◌, ◌^◌, ◌≤◌, ◌<◌}
-use native.Mathlib.Nat.{one-mul, add-zero, add-suc, le_refl, pow-suc}
-use native.Mathlib.Numerals.{add-one}
+use Prim.Native.Nat.{ℕ, zero, suc, ◌+◌, ◌-◌, ◌*◌, ◌^◌, ◌≤◌, ◌<◌}
+use native.Mathlib.Nat.{le_refl, one-mul, eq-or-lt_of_le, le_of_suc-le-suc, lt_of_not-le, mul-le-mul_right, pow-suc}
 use native.Mathlib.Omega.{arith}
+use borrow.Author.Tests.{eq-eqb, eqb-true, eqb-false}
 use lib.Bits.{bit_xor, xor_shifted, xor_comm}
+use lib.Count.{ones_cat, ones-ones}
 use lib.ListN.{length, get_or}
-use lib.Pow.{pow_mono}
+use lib.Pow.{pow_pos, pow_mono}
+use Rattle.std.proofs.lemmas.Nat.{leading_top, ones_le_self, zero_from_ones}
+use Rattle.std.specs.Int.{is_power_of_two}
+use Rattle.bits.specs.Bits.{bit}
+use Rattle.bits.proofs.Bits.{below_power, bit_top}
+use Rattle.bits.proofs.Marks.{toggled_other}
+use Rattle.bits.proofs.Sets.{lt_none}
 use Rattle.cells.specs.Cell.{cell, put}
 use Rattle.cells.specs.Xor.{xor_bytes}
-use Rattle.simplex.specs.Shape.{banks_of}
+use Rattle.simplex.specs.Shape.{banks_of, degree_of}
+use Rattle.simplex.specs.Symbols.{has_symbol, last_of, highest_of, without_highest}
 use Rattle.simplex.specs.Code.{Packet, Sized, bank_cell}
-use Rattle.simplex.specs.Filling.{filled, Room}
-use Rattle.simplex.specs.Running.{doubled}
-use Rattle.simplex.proofs.Banks.{sized_at, linear, cell_one}
-use Rattle.simplex.proofs.Filling.{fewer, filled_bank}
+use Rattle.simplex.specs.Filling.{packets_of, filled, Room}
+use Rattle.simplex.specs.Running.{running_step}
+use Rattle.simplex.proofs.Banks.{linear, cell_one}
+use Rattle.simplex.proofs.Filling.{length_packets, packet_at, packets_sized, fewer, filled_more, filled_bank}
 
-top : (b h : ℕ) → b < 2 ^ h → bit_xor b (2 ^ h) ≡ 2 ^ h + b
-top b h l =
-    xor_comm b (2 ^ h) ∙ ap (λ (n : ℕ). bit_xor n b) (sym (one-mul (2 ^ h))) ∙ xor_shifted 1 h b l ∙ ap (λ (n : ℕ). n + b) (one-mul (2 ^ h))
+-- ---- the highest symbol
 
-bank_top : (P : ℕ) (packets : List Packet) (b h : ℕ) → b < 2 ^ h → h < length packets → Sized P packets
-    → xor_bytes (bank_cell P packets b) (get_or packets h []) ≡ bank_cell P packets (2 ^ h + b)
-bank_top P packets b h l q s =
-    ap (xor_bytes (bank_cell P packets b)) (sym (cell_one P packets h q s)) ∙ linear P packets b (2 ^ h) s ∙ ap (bank_cell P packets) (top b h l)
+last_is : (test : ℕ → Bool) (h n : ℕ) → h < n → test h ≡ true → ((i : ℕ) → h < i → test i ≡ false) → last_of test n ≡ h
+last_is test h zero l on off = absurd (omega arith)
+last_is test h (suc n) l on off =
+    ⊎_elim (λ (e : h ≡ n). rw (← e, on) refl) (λ (b : h < n). rw (off n b) (last_is test h n b on off)) (eq-or-lt_of_le (le_of_suc-le-suc l))
 
--- a turn of the loop that computes them
-pub doubled_more : (c : Packet) (place : ℕ → ℕ) (t n : ℕ) (s l : List ℕ) (from next : ℕ) → l ≡ doubled c place t n s
-    → from ≡ place (suc n) → next ≡ place (suc t + suc n)
-    → put l next (xor_bytes (cell l from (length c)) c) ≡ doubled c place t (n + 1) s
-unfolding doubled
-doubled_more c place t n s l from next e f x = rw (e, f, x, add-one n)
+-- h is the highest symbol of b where 2^h ≤ b < 2 * 2^h
+module _ (b h : ℕ) (low : 2 ^ h ≤ b) (high : b < 2 * 2 ^ h) where
+  held : has_symbol b h ≡ true
+  held =
+      let parts : b - 2 ^ h + 1 * 2 ^ h ≡ b = omega (arith, one-mul (2 ^ h)) in
+      eq-eqb _ _ (ap (λ (n : ℕ). bit n h) (sym parts) ∙ bit_top (b - 2 ^ h) 1 h (omega arith) (omega arith))
 
--- with the banks below 2^h in the store, which is suc t, and packet h as bank 2^h: n banks more
-module _ (P : ℕ) (packets : List Packet) (place : ℕ → ℕ) (sized : Sized P packets) (t h : ℕ) (pow : suc t ≡ 2 ^ h) (hk : h < length packets)
-    (s : List ℕ) where
-  doubled_filled : (n : ℕ) → n ≤ t → Room P place (suc t + n) (length s)
-      → doubled (get_or packets h []) place t n (filled P packets place (suc t) s) ≡ filled P packets place (suc t + n) s
-  unfolding doubled filled
-  doubled_filled zero l r = ap (λ (n : ℕ). filled P packets place n s) (sym (add-zero (suc t)))
-  doubled_filled (suc n) l r =
-      let c : Packet = get_or packets h [] in
-      let more : suc t + suc n ≡ suc (suc t + n) = add-suc (suc t) n in
-      let room : Room P place (suc t + n) (length s) = fewer (suc t + n) (omega arith) r in
-      let source : cell (filled P packets place (suc t + n) s) (place (suc n)) (length c) ≡ bank_cell P packets (suc n) =
-      ap (cell (filled P packets place (suc t + n) s) (place (suc n))) (sized_at P packets h hk sized)
-      ∙ filled_bank P packets place sized (suc t + n) s room (suc n) (omega arith) (omega arith) in
-      let number : 2 ^ h + suc n ≡ suc (suc t + n) = omega arith in
-      let next : xor_bytes (cell (filled P packets place (suc t + n) s) (place (suc n)) (length c)) c ≡ bank_cell P packets (suc (suc t + n)) =
-      ap (λ (x : Packet). xor_bytes x c) source ∙ bank_top P packets (suc n) h (omega arith) hk sized ∙ ap (bank_cell P packets) number in
-      ap (λ (x : List ℕ). put x (place (suc t + suc n)) (xor_bytes (cell x (place (suc n)) (length c)) c)) (doubled_filled n (omega arith) room)
-      ∙ ap₂ (λ (m : ℕ) (x : Packet). put (filled P packets place (suc t + n) s) (place m) x) more next
-      ∙ ap (λ (m : ℕ). filled P packets place m s) (sym more)
+  none_above : (i : ℕ) → h < i → has_symbol b i ≡ false
+  none_above = lt_none b (suc h) (omega (arith, pow-suc 2 h))
 
-  -- from the banks below 2^h to those below 2^(h+1)
-  pub raised : Room P place (suc t + t) (length s)
-      → doubled (get_or packets h []) place t t (put (filled P packets place t s) (place (suc t)) (get_or packets h [])) ≡ filled P packets place (suc t + t) s
-  unfolding filled
-  raised r =
-      let one : get_or packets h [] ≡ bank_cell P packets (suc t) = sym (ap (bank_cell P packets) pow ∙ cell_one P packets h hk sized) in
-      ap (λ (x : Packet). doubled (get_or packets h []) place t t (put (filled P packets place t s) (place (suc t)) x)) one
-      ∙ doubled_filled t (le_refl t) r
+  pub highest_is : h ≡ highest_of b
+  highest_is = sym (last_is (has_symbol b) h b (omega (arith, below_power h)) held none_above)
 
--- symbol h of k adds a bank for each of the t banks that are there, and one: all are banks of the group
-pub twice_within : (h k t : ℕ) → h < k → t + 1 ≡ 2 ^ h → suc t + t ≤ banks_of k
-twice_within h k t l e = let up : 2 ^ suc h ≤ 2 ^ k = pow_mono l in omega (arith, pow-suc 2 h)
+-- each bank has a highest symbol, so within these bounds
+bounds : (b : ℕ) → 1 ≤ b → (2 ^ highest_of b ≤ b) × (b < 2 * 2 ^ highest_of b)
+bounds b some =
+    let top = leading_top b b some (below_power b) in
+    let high : b < 2 * 2 ^ top.0 = omega (arith, top.3, pow-suc 2 top.0) in
+    rw (← highest_is b top.0 top.2 high) (top.2, high)
 
-pub pow_more : (h : ℕ) → 2 ^ (h + 1) ≡ 2 ^ h + 2 ^ h
-pow_more h = rw (add-one h) (omega (arith, pow-suc 2 h))
+pub highest_held : (b : ℕ) → 1 ≤ b → (has_symbol b (highest_of b) ≡ true) × ((i : ℕ) → highest_of b < i → has_symbol b i ≡ false)
+highest_held b some =
+    let bounds = bounds b some in (held b (highest_of b) bounds.0 bounds.1, none_above b (highest_of b) bounds.0 bounds.1)
+
+module _ (b : ℕ) (some : 1 ≤ b) where
+  rest_below : without_highest b < 2 ^ highest_of b
+  rest_below = omega (arith, bounds b some)
+
+  -- the bank is its highest symbol's systematic bank and the rest
+  pub rest_more : 2 ^ highest_of b + without_highest b ≡ b
+  rest_more = omega (arith, bounds b some)
+
+  degree_more : degree_of b ≡ suc (degree_of (without_highest b))
+  degree_more =
+      let parts : 1 * 2 ^ highest_of b + without_highest b ≡ b = omega (arith, one-mul (2 ^ highest_of b), rest_more) in
+      omega (arith, ap degree_of parts, ones_cat (highest_of b) 1 (without_highest b) rest_below, ones-ones 1)
+
+  -- its highest symbol is one of the group
+  pub symbol_below : (K : ℕ) → b ≤ banks_of K → highest_of b < K
+  symbol_below K most =
+      lt_of_not-le (λ (m : K ≤ highest_of b). let up : 2 ^ K ≤ 2 ^ highest_of b = pow_mono m in omega (arith, bounds b some, up, pow_pos K))
+
+  top : bit_xor (without_highest b) (2 ^ highest_of b) ≡ b
+  top =
+      xor_comm (without_highest b) (2 ^ highest_of b) ∙ ap (λ (n : ℕ). bit_xor n (without_highest b)) (sym (one-mul (2 ^ highest_of b)))
+      ∙ xor_shifted 1 (highest_of b) (without_highest b) rest_below ∙ ap (λ (n : ℕ). n + without_highest b) (one-mul (2 ^ highest_of b)) ∙ rest_more
+
+  pub rest_held : (has_symbol (without_highest b) (highest_of b) ≡ false) × ((i : ℕ) → i ≢ highest_of b → has_symbol (without_highest b) i ≡ has_symbol b i)
+  rest_held = (
+    lt_none (without_highest b) (highest_of b) rest_below (highest_of b) (le_refl (highest_of b)),
+    λ i other. sym (toggled_other (without_highest b) (highest_of b) i (λ e. other (sym e))) ∙ ap (λ (n : ℕ). has_symbol n i) top,
+  )
+
+  -- what the code puts into it
+  bank_top : (P : ℕ) (packets : List Packet) → highest_of b < length packets → Sized P packets
+      → xor_bytes (bank_cell P packets (without_highest b)) (get_or packets (highest_of b) []) ≡ bank_cell P packets b
+  bank_top P packets l s =
+      ap (xor_bytes (bank_cell P packets (without_highest b))) (sym (cell_one P packets (highest_of b) l s))
+      ∙ linear P packets (without_highest b) (2 ^ highest_of b) s ∙ ap (bank_cell P packets) top
+
+-- a bank of degree two or more has a rest, and the others are systematic: their numbers are powers of two
+pub some_rest : (b : ℕ) → 2 ≤ degree_of b → (1 ≤ b) × (1 ≤ without_highest b)
+some_rest b two = go (without_highest b) refl
+  where
+    some : 1 ≤ b
+    some = omega (arith, ones_le_self b)
+
+    go : (r : ℕ) → without_highest b ≡ r → (1 ≤ b) × (1 ≤ without_highest b)
+    go zero e = absurd (omega (arith, degree_more b some, ap degree_of e, ones_le_self 0))
+    go (suc r) e = (some, omega arith)
+
+pub lower : (b : ℕ) → 2 ≤ degree_of b → (1 ≤ without_highest b) × (without_highest b < b) × (degree_of b ≡ suc (degree_of (without_highest b)))
+lower b two =
+    let some = some_rest b two in (some.1, omega (arith, rest_more b some.0, pow_pos (highest_of b)), degree_more b some.0)
+
+pub degree_two : (b : ℕ) → 1 ≤ b → false ≡ is_power_of_two b → 2 ≤ degree_of b
+degree_two b some other = omega (arith, degree_more b some, eqb-false (degree_of b) 1 (sym other))
+
+pub systematic : (b : ℕ) → 1 ≤ b → true ≡ is_power_of_two b → 2 ^ highest_of b ≡ b
+systematic b some one =
+    let none : without_highest b ≡ 0 =
+    zero_from_ones (without_highest b) (omega (arith, degree_more b some, eqb-true (degree_of b) 1 (sym one))) in
+    omega (arith, rest_more b some)
+
+pub kinds : (b : ℕ) → 1 ≤ b → (2 ^ highest_of b ≡ b) ⊎ (2 ≤ degree_of b)
+kinds b some = go (is_power_of_two b) refl
+  where
+    go : (t : Bool) → t ≡ is_power_of_two b → (2 ^ highest_of b ≡ b) ⊎ (2 ≤ degree_of b)
+    go true e = inl (systematic b some e)
+    go false e = inr (degree_two b some e)
+
+-- ---- the filling, bank by bank, from K packets of P bytes
+
+module _ (K P : ℕ) (packets : List ℕ) (fits : K * P ≤ length packets) where
+  abbrev group : List Packet
+  group = packets_of P K packets
+
+  sized : Sized P group
+  sized = packets_sized P K packets fits
+
+  in_group : (i : ℕ) → i < K → i < length group
+  in_group i l = rw (length_packets P K packets) l
+
+  packet : (i : ℕ) → i < K → cell packets (i * P) P ≡ get_or group i []
+  packet i l = sym (packet_at P K packets i l)
+
+  pub packet_there : (b : ℕ) → 1 ≤ b → b ≤ banks_of K → suc (highest_of b) * P ≤ length packets
+  packet_there b some most =
+      let up : suc (highest_of b) * P ≤ K * P = mul-le-mul_right P (symbol_below b some K most) in omega (arith, up, fits)
+
+  pub copies : (i : ℕ) (place : ℕ → ℕ) (s : List ℕ) → i < K
+      → put (filled P group place (2 ^ i - 1) s) (place (2 ^ i)) (cell packets (i * P) P) ≡ filled P group place (2 ^ i) s
+  copies i place s l =
+      ap (put (filled P group place (2 ^ i - 1) s) (place (2 ^ i))) (packet i l ∙ sym (cell_one P group i (in_group i l) sized))
+      ∙ filled_more P group place (2 ^ i) s (pow_pos i)
+
+  pub steps : (b : ℕ) (place : ℕ → ℕ) (s : List ℕ) → 2 ≤ degree_of b → b ≤ banks_of K → Room P place b (length s)
+      → running_step P packets place b (filled P group place (b - 1) s) ≡ filled P group place b s
+  steps b place s two most room =
+      let some = (some_rest b two).0 in
+      let l = symbol_below b some K most in
+      let before : without_highest b ≤ b - 1 = omega (arith, (lower b two).1) in
+      let source = filled_bank P group place sized (b - 1) s (fewer (b - 1) (omega arith) room) (without_highest b) (lower b two).0 before in
+      ap (put (filled P group place (b - 1) s) (place b))
+      (ap₂ xor_bytes source (packet (highest_of b) l) ∙ bank_top b some P group (in_group (highest_of b) l) sized)
+      ∙ filled_more P group place b s some

@@ -1,4 +1,5 @@
--- The definitions of the crate: the shape of a group, its code, the limit, a group filled into a store, and a symbol of it updated there.
+-- The definitions of the crate: the shape of a group, its code, the limit, a group filled into a store, the symbols of a bank, a symbol updated in
+-- a group's banks, and running XOR.
 pub mod Shape
 pub mod Code
 pub mod Limit

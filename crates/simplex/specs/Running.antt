@@ -1,11 +1,10 @@
--- How the banks are computed: by running XOR, one symbol more at a time. No public promise cites it.
-use Rattle.std.specs.Prelude.{List, ℕ, zero, suc, ◌+◌, length}
+-- Running XOR: how a bank of degree two or more is computed, from a bank of one symbol less.
+use Rattle.std.specs.Prelude.{List, ℕ, ◌*◌}
 use Rattle.cells.specs.Cell.{cell, put}
 use Rattle.cells.specs.Xor.{xor_bytes}
-use Rattle.simplex.specs.Code.{Packet}
+use Rattle.simplex.specs.Symbols.{highest_of, without_highest}
 
--- The store s with banks t + 2 to t + 1 + n put in, where the next symbol's packet c is bank t + 1: bank t + 1 + b is the cell of bank b XOR c.
-unfoldable pub doubled : Packet → (ℕ → ℕ) → (t n : ℕ) → List ℕ → List ℕ
-doubled c place t zero s = s
-doubled c place t (suc n) s =
-    put (doubled c place t n s) (place (suc t + suc n)) (xor_bytes (cell (doubled c place t n s) (place (suc n)) (length c)) c)
+-- The store s with bank b put in, at the index `place b`, from two sources alone: the cell of the bank without its highest symbol, whatever that cell holds, and
+-- that symbol's packet. The packets stand one after the other, P bytes each.
+abbrev pub running_step : (P : ℕ) → (packets : List ℕ) → (place : ℕ → ℕ) → (b : ℕ) → List ℕ → List ℕ
+running_step P packets place b s = put s (place b) (xor_bytes (cell s (place (without_highest b)) P) (cell packets (highest_of b * P) P))

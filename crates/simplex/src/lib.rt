@@ -2,12 +2,13 @@
 #![tactic(auto)]
 
 ghost use Rattle.std.specs.Prelude.{◌≡◌, suc, ◌+◌, ◌*◌, ◌^◌, ◌≤◌, ◌<◌, length};
-ghost use Rattle.cells.specs.Cell.{put};
-ghost use Rattle.simplex.specs.Shape.{SymbolsInRange, most_symbols, banks_of, group_of, degree_of};
+ghost use Rattle.cells.specs.Cell.{cell};
+ghost use Rattle.simplex.specs.Shape.{SymbolsInRange, banks_of, group_of, degree_of};
 ghost use Rattle.simplex.specs.Limit.{TheLimit, LimitOfReads, LimitMet};
 ghost use Rattle.simplex.specs.Laws.{TheCode};
 ghost use Rattle.simplex.specs.Filling.{packets_of, filled, spaced, Fillable};
-ghost use Rattle.simplex.specs.Running.{doubled};
+ghost use Rattle.simplex.specs.Symbols.{highest_of};
+ghost use Rattle.simplex.specs.Running.{running_step};
 ghost use Rattle.simplex.specs.Updating.{symbol_updated, Updatable};
 
 // The bounds of K. A request vector has as many counts as the largest K has symbols.
@@ -84,28 +85,52 @@ impl Spacing {
     }
 }
 
-// Adds a symbol to a group that has banks 1 to `t`: its packet becomes bank t + 1, and bank b XOR the packet becomes bank t + 1 + b, for b from 1 to t.
-fn add_symbol(store: &mut [u8], banks: Spacing, t: usize, packet: &[u8])
-    requires below { t < 2 ^ most_symbols }
-    requires room { (length packet.now ≤ banks.step) × (banks.step ≤ length store.old) × (spaced banks.at banks.step (suc t + t) + length packet.now ≤ length store.old) }
-    ensures { store.new ≡ doubled packet.now (spaced banks.at banks.step) t t (put store.old (spaced banks.at banks.step (suc t)) packet.now) }
+// The highest symbol that a bank holds.
+#[tactic(auto, using(crate::proofs::Running::highest_is))]
+fn highest_of(bank: usize) -> usize
+    requires { 1 ≤ bank }
+    ensures { result ≡ highest_of bank }
 {
-    cells::copy_into(store, banks.place_of(t + 1), packet);
-    for b in 1..=t {
-        let from = banks.place_of(b);
-        cells::xor_from(store, banks.place_of(t + 1 + b), from, packet);
-    }
+    // `as`, since usize has no From<u32>.
+    bank.ilog2() as usize
 }
 
-// Fills one group's banks in one row of `store` from its `k` packets of `p` bytes. Each symbol's packet is stored once, and every other bank comes from a cell
-// that is already written.
+// Packet i of packets of `p` bytes that stand one after the other.
+fn packet_of(packets: &[u8], p: usize, i: usize) -> &[u8]
+    requires { suc i * p ≤ length packets.now }
+    ensures { result.now ≡ cell packets.now (i * p) p }
+{
+    &packets[i * p..][..p]
+}
+
+// Sets one bank of degree two or more, in one row of `store`, by a step of running XOR. `packets` are the group's, at least up to that of the bank's highest symbol:
+// of one packet handed in, the promise could not say whose it is.
+pub fn running_step(store: &mut [u8], banks: Spacing, packets: &[u8], p: usize, b: usize)
+    requires degree { 2 ≤ degree_of b }
+    requires packet { suc (highest_of b) * p ≤ length packets.now }
+    requires room { (p ≤ banks.step) × (spaced banks.at banks.step b + p ≤ length store.old) }
+    ensures { store.new ≡ running_step p packets.now (spaced banks.at banks.step) b store.old }
+{
+    let h = highest_of(b);
+    let from = banks.place_of(b - (1 << h));
+    let at = banks.place_of(b);
+    cells::xor_from(store, at, from, packet_of(packets, p, h));
+}
+
+// Fills one group's banks in one row of `store` from its `k` packets of `p` bytes: a systematic bank is a copy of its packet, and every other a step of running XOR.
+// They go in the order of their numbers, since the bank that a step comes from has a lower one.
+#[tactic(auto, using(crate::proofs::Running::degree_two))]
 pub fn fill_group(store: &mut [u8], banks: Spacing, packets: &[u8], p: usize, k: usize)
     requires { Fillable k p banks.at banks.step packets.now store.old }
     ensures { store.new ≡ filled p (packets_of p k packets.now) (spaced banks.at banks.step) (banks_of k) store.old }
 {
-    // By index: p may be 0, which `chunks_exact` does not take.
-    for h in 0..k {
-        add_symbol(store, banks, (1 << h) - 1, &packets[h * p..(h + 1) * p]);
+    for b in 1..=group_of(k).banks {
+        if b.is_power_of_two() {
+            let packet = packet_of(packets, p, highest_of(b));
+            cells::copy_into(store, banks.place_of(b), packet);
+        } else {
+            running_step(store, banks, packets, p, b);
+        }
     }
 }
 

@@ -1,73 +1,84 @@
--- Before a turn the banks below 2^h are there. Symbol h's banks are the group's, and its packet is a part of the list.
-use Rattle.std.proofs.Common.{◌≡◌, ℕ, suc, ◌+◌, ◌-◌, ◌*◌, ◌%◌, ◌^◌, ◌<◌, ◌≤◌, List, [], length, get_or, arith, refl, ap, ◌∙◌}
-use native.Mathlib.Nat.{one-mul}
-use lib.Pow.{pow_mono, pow_pos}
-use Rattle.bits.proofs.Marks.{one_shl}
-use Rattle.cells.specs.Cell.{put}
-use Rattle.simplex.specs.Shape.{most_symbols, banks_of}
-use Rattle.simplex.specs.Code.{Packet, Sized}
-use Rattle.simplex.specs.Filling.{packets_of, filled, spaced, Room, Fillable}
-use Rattle.simplex.specs.Running.{doubled}
-use Rattle.simplex.proofs.Banks.{sized_at}
-use Rattle.simplex.proofs.Filling.{length_packets, packet_part, fewer, fillable_sized, fillable_room}
-use Rattle.simplex.proofs.Running.{raised, twice_within, pow_more}
+-- Each turn puts one bank in: the banks that a step may come from are there.
+use Rattle.std.proofs.Common.{◌≡◌, ◌∙◌, ℕ, ◌+◌, ◌-◌, ◌*◌, ◌^◌, ◌≤◌, List, length, true, false, arith, refl, sym}
+use Rattle.std.specs.Int.{is_power_of_two}
+use native.Mathlib.Nat.{le_of_eq}
+use lib.Pow.{pow_mono}
+use Rattle.cells.specs.Cell.{cell, put}
+use Rattle.simplex.specs.Shape.{banks_of}
+use Rattle.simplex.specs.Filling.{packets_of, filled, spaced, Fillable}
+use Rattle.simplex.specs.Symbols.{highest_of}
+use Rattle.simplex.specs.Running.{running_step}
+use Rattle.simplex.proofs.Tables.{banks_of_lem}
+use Rattle.simplex.proofs.Filling.{fewer, fillable_room}
+use Rattle.simplex.proofs.Running.{systematic, symbol_below, degree_two, packet_there, copies, steps}
 use Rattle.simplex.proofs.fill_group.Goals as goal
+use Rattle.simplex.proofs.fill_group.Goals.{then-is_power_of_two, else-is_power_of_two}
 
-module _ {k p at step : ℕ} {bytes store : List ℕ} (f : Fillable k p at step bytes store) (h : ℕ) (l : h < k) where
-  count : 1 * 2 ^ h % 2 ^ 64 - 1 ≡ banks_of h
-  count = ap (λ (n : ℕ). n - 1) (one_shl h 64 (omega (arith, f.symbols.most)))
+module _ {k p at step : ℕ} {bytes store : List ℕ} (f : Fillable k p at step bytes store) (b : ℕ) (some : 1 ≤ b) (most : b ≤ banks_of k)
+    (now next : List ℕ) (was : now ≡ filled p (packets_of p k bytes) (spaced at step) (b - 1) store) where
+  abbrev Turned : Type 0
+  Turned = next ≡ filled p (packets_of p k bytes) (spaced at step) b store
 
-  sized : Sized p (packets_of p k bytes)
-  sized = fillable_sized k p at step bytes store f
+  fits : k * p ≤ length bytes
+  fits = le_of_eq (sym f.packets_size)
 
-  room : Room p (spaced at step) (banks_of k) (length store)
-  room = fillable_room k p at step bytes store f
+  copied : (to i : ℕ) (packet : List ℕ) → true ≡ is_power_of_two b → to ≡ spaced at step b → i ≡ highest_of b → packet ≡ cell bytes (i * p) p
+      → next ≡ put now to packet → Turned
+  copied to i packet power here highest part is =
+      is ∙ rw (here, part, highest, was)
+      (rw (systematic b some power) at (copies k p bytes fits (highest_of b) (spaced at step) store (symbol_below b some k most)))
 
-  symbol : h < length (packets_of p k bytes)
-  symbol = omega (arith, length_packets p k bytes)
+  stepped : false ≡ is_power_of_two b → next ≡ running_step p bytes (spaced at step) b now → Turned
+  stepped other is =
+      let room = fewer b most (fillable_room k p at step bytes store f) in
+      is ∙ rw was (steps k p bytes fits b (spaced at step) store (degree_two b some other) most room)
 
-  power : suc (banks_of h) ≡ 2 ^ h
-  power = omega (arith, pow_pos h)
+one_bank : (k : ℕ) → 2 ≤ k → 1 ≤ banks_of k
+one_bank k least = let four : 2 ^ 2 ≤ 2 ^ k = pow_mono least in omega (arith, four)
 
-  -- the banks that are there and the new ones are the group's
-  twice : suc (banks_of h) + banks_of h ≤ banks_of k
-  twice = twice_within h k (banks_of h) l (omega (arith, power))
-
-  -- fewer banks are there than the largest K has
-  below : banks_of h < 2 ^ most_symbols
-  below = let most : 2 ^ k ≤ 2 ^ most_symbols = pow_mono f.symbols.most in omega (arith, twice)
-
-  module _ (t : ℕ) (packet : Packet) (now : List ℕ) (there : t ≡ banks_of h) (part : packet ≡ get_or (packets_of p k bytes) h []) where
-    -- a step fits the store, since the second bank lies one after the first
-    fits : length now ≡ length store → (length packet ≤ step) × (step ≤ length now) × (spaced at step (suc t + t) + length packet ≤ length now)
-    fits same =
-        let four : 2 ^ 2 ≤ 2 ^ k = pow_mono f.symbols.least in
-        let second = room.within 2 (omega arith) (omega arith) in
-        let last = room.within (suc (banks_of h) + banks_of h) (omega arith) twice in
-        rw (there, part, sized_at p (packets_of p k bytes) h symbol sized) (omega (arith, one-mul step, f.step_size))
-
-    -- a turn
-    turn : (next : List ℕ) → now ≡ filled p (packets_of p k bytes) (spaced at step) (banks_of h) store
-        → next ≡ doubled packet (spaced at step) t t (put now (spaced at step (suc t)) packet)
-        → next ≡ filled p (packets_of p k bytes) (spaced at step) (banks_of (h + 1)) store
-    turn next was is =
-        let more : suc (banks_of h) + banks_of h ≡ banks_of (h + 1) = omega (arith, pow_more h, power) in
-        rw (there, part, was) at is
-        ∙ raised p (packets_of p k bytes) (spaced at step) sized (banks_of h) h power symbol store (fewer _ twice room)
-        ∙ ap (λ (n : ℕ). filled p (packets_of p k bytes) (spaced at step) n store) more
-
-pub loop-h-init : goal.loop-h-init
+pub loop-b-init : goal.loop-b-init
 unfolding filled
-loop-h-init c = refl
+loop-b-init c = refl
 
-pub add_symbol-requires : goal.add_symbol-requires
-add_symbol-requires c =
-    let h = c.loop-h.h in
-    let l : h < c.args.k = omega arith in
-    record { below = rw (count c.requires h l) (below c.requires h l); room = fits c.requires h l _ _ c.loop-h.store (count c.requires h l) (packet_part c.args.p c.args.k c.args.packets.now h l) c.loop-h.auto.store }
+pub packet_of-packet-requires : goal.packet_of-packet-requires
+packet_of-packet-requires c =
+    let most : c.loop-b.b ≤ banks_of c.args.k = omega (arith, banks_of_lem c.args.k c.group_of-b-end.ensures) in
+    rw c.highest_of.ensures (packet_there c.args.k c.args.p c.args.packets.now (le_of_eq (sym c.requires.packets_size)) c.loop-b.b c.loop-b.auto.b most)
 
-pub loop-h-preserved : goal.loop-h-preserved
-loop-h-preserved c =
-    let h = c.loop-h.h in
-    let l : h < c.args.k = omega arith in
-    turn c.requires h l _ _ c.loop-h.store (count c.requires h l) (packet_part c.args.p c.args.k c.args.packets.now h l) c.add_symbol.new.store c.loop-h.invariant c.add_symbol.ensures
+pub running_step-requires-clause-packet : goal.running_step-requires-clause-packet
+running_step-requires-clause-packet c =
+    let most : c.loop-b.b ≤ banks_of c.args.k = omega (arith, banks_of_lem c.args.k c.group_of-b-end.ensures) in
+    packet_there c.args.k c.args.p c.args.packets.now (le_of_eq (sym c.requires.packets_size)) c.loop-b.b c.loop-b.auto.b most
+
+pub loop-b-preserved : goal.loop-b-preserved
+loop-b-preserved c =
+    let most : c.loop-b.b ≤ banks_of c.args.k = omega (arith, banks_of_lem c.args.k c.group_of-b-end.ensures) in
+    let done : c.loop-b.b + 1 - 1 ≡ c.loop-b.b = omega arith in
+    rw done
+    (elim c.if-is_power_of_two.branch [
+      | then-is_power_of_two w ↦
+          copied c.requires c.loop-b.b c.loop-b.auto.b most _ _ c.loop-b.invariant _ _ _ w.if-is_power_of_two.ensures w.place_of.ensures
+          w.highest_of.ensures w.packet_of-packet.ensures (w.store-is ∙ w.copy_into.ensures)
+      | else-is_power_of_two w ↦
+          stepped c.requires c.loop-b.b c.loop-b.auto.b most _ _ c.loop-b.invariant w.if-is_power_of_two.ensures (w.store-is ∙ w.running_step.ensures)
+    ])
+
+pub returns : goal.returns
+returns c =
+    let banks = banks_of_lem c.args.k c.group_of-b-end.ensures in
+    let end = c.loop-b.auto.b-end (omega (arith, banks, one_bank c.args.k c.requires.symbols.least)) in
+    let all : c.loop-b.b - 1 ≡ banks_of c.args.k = omega (arith, banks, end) in
+    rw all at c.loop-b.invariant
+
+pub returns-after-is_power_of_two : goal.returns-after-is_power_of_two
+returns-after-is_power_of_two c =
+    let last : c.loop-b.b ≡ banks_of c.args.k = omega (arith, banks_of_lem c.args.k c.group_of-b-end.ensures) in
+    let most : c.loop-b.b ≤ banks_of c.args.k = omega (arith, last) in
+    rw (← last)
+    (elim c.if-is_power_of_two.branch [
+      | then-is_power_of_two w ↦
+          copied c.requires c.loop-b.b c.loop-b.auto.b most _ _ c.loop-b.invariant _ _ _ w.if-is_power_of_two.ensures w.place_of.ensures
+          w.highest_of.ensures w.packet_of-packet.ensures (w.store-is ∙ w.copy_into.ensures)
+      | else-is_power_of_two w ↦
+          stepped c.requires c.loop-b.b c.loop-b.auto.b most _ _ c.loop-b.invariant w.if-is_power_of_two.ensures (w.store-is ∙ w.running_step.ensures)
+    ])

@@ -1,8 +1,7 @@
--- The banks of the symbols so far are put in.
-use Rattle.std.proofs.Common.{◌≡◌}
-use Rattle.simplex.specs.Shape.{banks_of}
+-- The banks of the turns so far are put in.
+use Rattle.std.proofs.Common.{◌≡◌, ◌-◌}
 use Rattle.simplex.specs.Filling.{packets_of, filled, spaced}
 use Rattle.simplex.proofs.fill_group.Given as goal
 
-abbrev pub invariant-loop-h : goal.invariant-loop-h
-invariant-loop-h l = l.store ≡ filled l.p (packets_of l.p l.k l.packets) (spaced l.banks.at l.banks.step) (banks_of l.h) l.fn.store
+abbrev pub invariant-loop-b : goal.invariant-loop-b
+invariant-loop-b l = l.store ≡ filled l.p (packets_of l.p l.k l.packets) (spaced l.banks.at l.banks.step) (l.b - 1) l.fn.store
