@@ -20,14 +20,16 @@ OPERATIONS = {
     "read_cycle": ("store: &[u8], reads: &[u8], out: &mut [u8], schedule: &mut [u8]", "read_cycle(store, reads, out, schedule)"),
 }
 USES = """
-use layout::{PacketName, Shape};
-use memory::{Answer, State};
+use layout::{PacketName, Rows, Shape};
+use memory::State;
+use refusals::Answer;
 """
 EXPORT = """
 #[unsafe(no_mangle)]
 pub extern "C" fn exported_{name}({state}, {parameters}) -> usize {{
     let shape = Shape {{ k, m, p, g }};
-    let state = State {{ shape, full }};
+    let rows = Rows {{ full }};
+    let state = State {{ shape, rows }};
     match state.{call}.answer {{
         Ok(Answer::FullRows(rows)) => rows,
         Ok(Answer::Served) => 100,

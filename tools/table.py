@@ -1,10 +1,10 @@
 #!/usr/bin/env python3
-"""Writes the stored table of the planner: crates/table/src/rows.rt and crates/table/specs/Rows.antt.
+"""Writes the stored table of the planner, crates/table/src/rows.rt, which the definitions take it from.
 
     python3 tools/table.py
 
 A row is a plan for one sorted request: falling counts that total 2^(K-1). The rows are found by a randomised search with a fixed seed, so
-every run writes the same files. Nothing rests on the search: whatever stands in the files, the prover tests every row and that none is missing.
+every run writes the same file. Nothing rests on the search: whatever stands in it, the prover tests every row and that none is missing.
 """
 import pathlib
 import textwrap
@@ -131,11 +131,6 @@ def trie(index):
     return entries
 
 
-def lines(items, indent, width, end):
-    parts = [items[i:i + width] for i in range(0, len(items), width)]
-    return "\n".join(indent + (end + " ").join(p) + end for p in parts) + "\n"
-
-
 def main():
     rows, index = table()
     entries = trie(index)
@@ -152,13 +147,6 @@ def main():
         + textwrap.fill(", ".join(map(str, entries)) + ",", 99, initial_indent="    ", subsequent_indent="    ") + "\n];\n\n"
         "// The rows: each with the K and the counts that it is for.\n"
         f"pub static ROWS: [u64; {len(rows)}] = [\n" + stored + "];\n", encoding="utf-8")
-    (crate / "specs" / "Rows.antt").write_text(
-        "-- The stored rows and their trie. Written by tools/table.py; nothing rests on how they were found.\n"
-        "use Rattle.std.specs.Prelude.{List, [], ◌∷◌, ℕ}\n\n"
-        "-- The rows.\n"
-        "unfoldable pub rows : List ℕ\nrows =\n" + lines(words, "    ", 4, " ∷") + "    []\n\n"
-        "-- Where the row of a request is: by the walk of specs/Table.antt.\n"
-        "unfoldable pub trie : List ℕ\ntrie =\n" + lines([str(e) for e in entries], "    ", 16, " ∷") + "    []\n", encoding="utf-8")
 
 
 if __name__ == "__main__":

@@ -13,12 +13,13 @@ use Rattle.std.specs.Option.{option_eq}
 use Rattle.std.proofs.lemmas.Bool.Decides.{eqb_tells}
 use Rattle.refusals.specs.Verdict.{Verdict, Accepted, between, answer_by}
 use Rattle.refusals.proofs.Verdicts.{checks, both, between_words, words_between}
-use Rattle.simplex.specs.Shape.{least_symbols, most_symbols, SymbolsInRange, limit_of}
-use Rattle.simplex.specs.Limit.{total}
+use Rattle.simplex.specs.declared.TheConstants.{LEAST_SYMBOLS, MOST_SYMBOLS}
+use Rattle.simplex.specs.Shape.{SymbolsInRange, limit_of, is_bank}
+use Rattle.std.specs.List.{sum}
 use Rattle.audit.specs.Plan.{Pair, is_plan}
 use Rattle.audit.specs.Audit.{counts_refusal, pairs_of, rest_of, Yes, No, audit_of, RequestOf, pair_bytes, PlanIn}
 use Rattle.audit.proofs.Reading.{sound, complete}
-use Rattle.audit.proofs.Served.{limit}
+use Rattle.audit.proofs.Served.{past_limit}
 use Rattle.audit.proofs.Requests.{all_zero_lem, zero_all}
 use Rattle.audit.proofs.Walk.{not_as_many}
 
@@ -26,8 +27,8 @@ use Rattle.audit.proofs.Walk.{not_as_many}
 module _ (K : ℕ) (counts : List ℕ) (e : counts_refusal K counts ≡ Accepted) where
   pub in_range : SymbolsInRange K
   in_range =
-      let k : between least_symbols most_symbols K ≡ true = search checks in
-      let w = between_words least_symbols most_symbols K k in
+      let k : between LEAST_SYMBOLS MOST_SYMBOLS K ≡ true = search checks in
+      let w = between_words LEAST_SYMBOLS MOST_SYMBOLS K k in
       record { least = w.0; most = w.1 }
 
   beyond_zero : (i : ℕ) → K ≤ i → get_or counts i 0 ≡ 0
@@ -39,34 +40,34 @@ module _ (K : ℕ) (counts bytes : List ℕ) where
     unfolding audit_of
     odd h = rw (e, ne_eqb (length bytes % 2) 0 h)
 
-    pub not_just : (length bytes / 2 ≡ total counts → ⊥) → No ≡ audit_of K counts bytes
+    pub not_just : (length bytes / 2 ≡ sum counts → ⊥) → No ≡ audit_of K counts bytes
     unfolding audit_of
-    not_just h = simp (e, not_as_many K counts bytes h, and-false)
+    not_just h = simp (e, not_as_many (is_bank K) counts bytes h, and-false)
 
-    pub even : length bytes % 2 ≡ 0 → (t : Bool) → t ≡ is_plan K counts (pairs_of bytes) → Ok t ≡ audit_of K counts bytes
+    pub even : length bytes % 2 ≡ 0 → (t : Bool) → t ≡ is_plan (is_bank K) counts (pairs_of bytes) → Ok t ≡ audit_of K counts bytes
     unfolding audit_of
     even h t p = rw (e, eq-eqb (length bytes % 2) 0 h) (ap (λ (x : Bool). answer_by x Accepted) p)
 
 -- what the counts leave of a room, by whether they fit in it
-module _ (room sum : ℕ) where
-  left_is : (fits : Bool) (left : ℕ) → leb sum room ≡ fits → Some left ≡ cond fits (Some (room - sum)) None → room ≡ sum + left
-  left_is true left f e = let fits = leb-true sum room f in let n : left ≡ room - sum = cc in omega arith
+module _ (room all : ℕ) where
+  left_is : (fits : Bool) (left : ℕ) → leb all room ≡ fits → Some left ≡ cond fits (Some (room - all)) None → room ≡ all + left
+  left_is true left f e = let fits = leb-true all room f in let n : left ≡ room - all = cc in omega arith
   left_is false left f e = cc
 
-  zero_is : (fits : Bool) → leb sum room ≡ fits → option_eq eqb (cond fits (Some (room - sum)) None) (Some 0) ≡ eqb room sum
+  zero_is : (fits : Bool) → leb all room ≡ fits → option_eq eqb (cond fits (Some (room - all)) None) (Some 0) ≡ eqb room all
   zero_is true f =
-      let fits = leb-true sum room f in
-      ⊎_elim (λ (w : (eqb room sum ≡ true) × (room ≡ sum)). rw (w.0, eq-eqb (room - sum) 0 (omega arith)))
-      (λ (w : (eqb room sum ≡ false) × (room ≢ sum)). rw (w.0, ne_eqb (room - sum) 0 (λ z. w.1 (omega arith)))) (eqb_tells room sum)
-  zero_is false f = let less = leb-false sum room f in rw (ne_eqb room sum (λ e. omega arith))
+      let fits = leb-true all room f in
+      ⊎_elim (λ (w : (eqb room all ≡ true) × (room ≡ all)). rw (w.0, eq-eqb (room - all) 0 (omega arith)))
+      (λ (w : (eqb room all ≡ false) × (room ≢ all)). rw (w.0, ne_eqb (room - all) 0 (λ z. w.1 (omega arith)))) (eqb_tells room all)
+  zero_is false f = let less = leb-false all room f in rw (ne_eqb room all (λ e. omega arith))
 
 module _ (room : ℕ) (counts : List ℕ) where
-  pub within : (left : ℕ) → Some left ≡ rest_of room counts → room ≡ total counts + left
-  within left e = left_is room (total counts) (leb (total counts) room) left refl e
+  pub within : (left : ℕ) → Some left ≡ rest_of room counts → room ≡ sum counts + left
+  within left e = left_is room (sum counts) (leb (sum counts) room) left refl e
 
   -- whether they leave just nothing
-  pub just : (r : Option ℕ) → r ≡ rest_of room counts → option_eq eqb r (Some 0) ≡ eqb room (total counts)
-  just r e = ap (λ (x : Option ℕ). option_eq eqb x (Some 0)) e ∙ zero_is room (total counts) (leb (total counts) room) refl
+  pub just : (r : Option ℕ) → r ≡ rest_of room counts → option_eq eqb r (Some 0) ≡ eqb room (sum counts)
+  just r e = ap (λ (x : Option ℕ). option_eq eqb x (Some 0)) e ∙ zero_is room (sum counts) (leb (sum counts) room) refl
 
 -- ---- yes
 
@@ -75,32 +76,32 @@ yes_parts Accepted t e = (refl, cc)
 yes_parts (Err refusal) t e = cc
 
 module _ (K : ℕ) (counts : List ℕ) where
-  pub request : length counts ≡ most_symbols → counts_refusal K counts ≡ Accepted → RequestOf K counts
+  pub request : length counts ≡ MOST_SYMBOLS → counts_refusal K counts ≡ Accepted → RequestOf K counts
   request n e = record { symbols = in_range K counts e; size = n; beyond = beyond_zero K counts e }
 
   pub accepted : RequestOf K counts → counts_refusal K counts ≡ Accepted
-  accepted r = rw (words_between least_symbols most_symbols K (r.symbols.least, r.symbols.most), zero_all K counts r.beyond)
+  accepted r = rw (words_between LEAST_SYMBOLS MOST_SYMBOLS K (r.symbols.least, r.symbols.most), zero_all K counts r.beyond)
 
   module _ (bytes : List ℕ) where
-    tests : audit_of K counts bytes ≡ Yes → (counts_refusal K counts ≡ Accepted) × (length bytes % 2 ≡ 0) × (is_plan K counts (pairs_of bytes) ≡ true)
+    tests : audit_of K counts bytes ≡ Yes → (counts_refusal K counts ≡ Accepted) × (length bytes % 2 ≡ 0) × (is_plan (is_bank K) counts (pairs_of bytes) ≡ true)
     unfolding audit_of
     tests e =
-        let p = yes_parts (counts_refusal K counts) (eqb (length bytes % 2) 0 && is_plan K counts (pairs_of bytes)) e in
-        let t = (both (eqb (length bytes % 2) 0) (is_plan K counts (pairs_of bytes))).0 p.1 in
+        let p = yes_parts (counts_refusal K counts) (eqb (length bytes % 2) 0 && is_plan (is_bank K) counts (pairs_of bytes)) e in
+        let t = (both (eqb (length bytes % 2) 0) (is_plan (is_bank K) counts (pairs_of bytes))).0 p.1 in
         (p.0, eqb-true (length bytes % 2) 0 t.0, t.1)
 
-    pub says_yes : counts_refusal K counts ≡ Accepted → length bytes % 2 ≡ 0 → is_plan K counts (pairs_of bytes) ≡ true → audit_of K counts bytes ≡ Yes
+    pub says_yes : counts_refusal K counts ≡ Accepted → length bytes % 2 ≡ 0 → is_plan (is_bank K) counts (pairs_of bytes) ≡ true → audit_of K counts bytes ≡ Yes
     unfolding audit_of
     says_yes e h p = rw (e, eq-eqb (length bytes % 2) 0 h, p)
 
-    pub yes : length counts ≡ most_symbols → (audit_of K counts bytes ≡ Yes) ↔ PlanIn K counts bytes
+    pub yes : length counts ≡ MOST_SYMBOLS → (audit_of K counts bytes ≡ Yes) ↔ PlanIn K counts bytes
     yes n = (
-      λ e. let t = tests e in record { request = request n t.0; even = t.1; plan = sound K counts (pairs_of bytes) t.2 },
-      λ p. says_yes (accepted p.request) p.even (complete K counts (pairs_of bytes) p.plan),
+      λ e. let t = tests e in record { request = request n t.0; even = t.1; plan = sound (is_bank K) counts (pairs_of bytes) t.2 },
+      λ p. says_yes (accepted p.request) p.even (complete (is_bank K) counts (pairs_of bytes) p.plan),
     )
 
-    pub never : limit_of K < total counts → audit_of K counts bytes ≡ Yes → ⊥
-    never h e = false≢true (sym (limit K counts (pairs_of bytes) h) ∙ (tests e).2)
+    pub never : limit_of K < sum counts → audit_of K counts bytes ≡ Yes → ⊥
+    never h e = false≢true (sym (past_limit K (λ b e. e) counts (pairs_of bytes) h) ∙ (tests e).2)
 
 -- the bytes of pairs stand for them
 pub pairs_bytes : (pairs : List Pair) → pairs_of (pair_bytes pairs) ≡ pairs

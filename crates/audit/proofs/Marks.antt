@@ -1,40 +1,51 @@
--- The banks that some pairs open, as marks.
-use mathlib.Core.Path.{◌≡◌, refl, sym, ap, ◌∙◌}
-use mathlib.Core.Bool.{Bool, true, false, not, ◌||◌}
-use mathlib.Core.List.{◌∷◌, ◌++◌}
+-- The banks that some pairs open, as marks. What is marked at 0 does not count: there is no bank 0.
+use mathlib.Core.Path.{◌≡◌, sym, ap, ◌∙◌}
+use mathlib.Core.Bool.{Bool, false, not, ◌&&◌, ◌||◌}
+use mathlib.Core.List.{◌++◌}
 use Prim.Native.Nat.{ℕ, zero, suc, ◌<◌}
-use native.Mathlib.Nat.{not-suc-le-zero}
 use native.Mathlib.Omega.{arith}
-use borrow.Author.Tests.{eqb-true, eqb-false}
-use lib.Dec.{eqb, eqb-zero-suc}
-use Rattle.bits.specs.Marks.{marked, toggled}
-use Rattle.bits.proofs.Marks.{toggled_itself, toggled_other}
+use borrow.Author.Tests.{ne_eqb}
+use lib.Dec.{eqb}
+use Rattle.bits.specs.Marks.{marked}
+use Rattle.bits.specs.Sets.{set_of}
+use Rattle.bits.proofs.Sets.{marked_set}
 use Rattle.simplex.specs.Code.{Banks}
 use Rattle.audit.specs.Plan.{opens, among}
-use Rattle.audit.specs.Parts.{bank_toggled}
 
--- each: bank x is marked exactly if it is among the banks. none: there is no bank 0.
+abbrev pub is_met : (set b : ℕ) → Bool
+is_met set b = not (eqb b 0) && marked set b
+
+-- Each bank is marked exactly if it is among these.
 pub record Marks (set : ℕ) (banks : Banks) : Type 0 where
-  pub each : (x : ℕ) → marked set x ≡ among x banks
-  pub none : among 0 banks ≡ false
+  pub each : (x : ℕ) → x < 64 → is_met set x ≡ among x banks
 
--- one bank more, which was not marked
-put_in : (s b x : ℕ) (t : Bool) → marked s b ≡ false → eqb x b ≡ t → marked (toggled s b) x ≡ (t || marked s x)
-put_in s b x true off e = ap (marked (toggled s b)) (eqb-true x b e) ∙ toggled_itself s b ∙ ap not off
-put_in s b x false off e = toggled_other s b x (λ q. eqb-false x b e (sym q))
+abbrev pub with_bank : (set b : ℕ) → ℕ
+with_bank set b = set_of (λ x. eqb x b || marked set x) 64
 
-more : (s b : ℕ) (banks : Banks) → Marks s banks → marked s (suc b) ≡ false → Marks (toggled s (suc b)) (suc b ∷ banks)
-more s b banks m off = record {
-  each = λ x. put_in s (suc b) x (eqb x (suc b)) off refl ∙ ap (λ (t : Bool). eqb x (suc b) || t) (m.each x);
-  none = rw (eqb-zero-suc b) m.none;
-}
+put_in : (set b x : ℕ) → x < 64 → marked (with_bank set b) x ≡ (eqb x b || marked set x)
+put_in set b x h = marked_set (λ y. eqb y b || marked set y) 64 x h
 
-still_off : (s a b : ℕ) → b < a → marked s a ≡ false → marked (bank_toggled s b) a ≡ false
-still_off s a zero l off = off
-still_off s a (suc b) l off = toggled_other s (suc b) a (λ e. omega arith) ∙ off
+module _ (set : ℕ) (banks : Banks) (m : Marks set banks) where
+  none : among 0 banks ≡ false
+  none = sym (m.each 0 (omega arith))
 
-pub more_pair : (s a b : ℕ) (banks : Banks) → b < a → Marks s banks → marked s b ≡ false → marked s a ≡ false
-    → Marks (bank_toggled (bank_toggled s b) a) (opens a b ++ banks)
-more_pair s zero b banks l m hb ha = absurd (not-suc-le-zero l)
-more_pair s (suc a) zero banks l m hb ha = more s a banks m ha
-more_pair s (suc a) (suc b) banks l m hb ha = more (toggled s (suc b)) a (suc b ∷ banks) (more s b banks m hb) (still_off s (suc a) (suc b) l ha)
+  some : (x : ℕ) → suc x < 64 → marked set (suc x) ≡ among (suc x) banks
+  some x h = let e = m.each (suc x) h in rw (ne_eqb (suc x) 0 (λ z. omega arith)) at e
+
+  -- the banks of a pair put in
+  pub more_pair : (a b : ℕ) → b < a → Marks (with_bank (with_bank set b) a) (opens a b ++ banks)
+  more_pair a b l = record { each = at }
+    where
+      no_bank : (b : ℕ) → b < a → false ≡ among 0 (opens a b ++ banks)
+      no_bank zero l = rw (ne_eqb 0 a (λ z. omega arith), none)
+      no_bank (suc b) l = rw (ne_eqb 0 a (λ z. omega arith), ne_eqb 0 (suc b) (λ z. omega arith), none)
+
+      both : (b x : ℕ) → suc x < 64 → (eqb (suc x) a || (eqb (suc x) b || marked set (suc x))) ≡ among (suc x) (opens a b ++ banks)
+      both zero x h = rw (ne_eqb (suc x) 0 (λ z. omega arith), some x h)
+      both (suc b) x h = rw (some x h)
+
+      at : (x : ℕ) → x < 64 → is_met (with_bank (with_bank set b) a) x ≡ among x (opens a b ++ banks)
+      at zero h = no_bank b l
+      at (suc x) h =
+          rw (ne_eqb (suc x) 0 (λ z. omega arith))
+          (put_in (with_bank set b) a (suc x) h ∙ ap (λ (t : Bool). eqb (suc x) a || t) (put_in set b (suc x) h) ∙ both b x h)

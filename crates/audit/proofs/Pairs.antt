@@ -11,27 +11,30 @@ use Rattle.std.specs.List.{zip}
 use Rattle.std.specs.Simd.{first_chunks}
 use Rattle.std.proofs.lemmas.List.{get_or_default}
 use Rattle.std.proofs.lemmas.Slice.Zip.{get_or-zip, length-zip}
+use Rattle.refusals.specs.Verdict.{between}
 use Rattle.simplex.specs.declared.Group.{Group}
-use Rattle.simplex.specs.Shape.{SymbolsInRange, group_of}
-use Rattle.simplex.specs.Limit.{total, reads_of}
+use Rattle.simplex.specs.Shape.{SymbolsInRange, group_of, is_bank}
+use Rattle.std.specs.List.{sum}
+use Rattle.simplex.specs.Limit.{reads_of}
 use Rattle.simplex.proofs.Tables.{banks_of_lem}
 use Rattle.simplex.proofs.Requests.{length_reads}
-use Rattle.audit.specs.Plan.{serves, serves_within, pair_at}
+use Rattle.audit.specs.Plan.{serves, pair_at}
 use Rattle.audit.specs.Audit.{pairs_of}
-use Rattle.audit.proofs.Reading.{serves_sound}
+use Rattle.audit.proofs.Reading.{serves_sound, first_to}
 
 -- ---- the tests, and what they say
 
 -- the banks of a pair that serves are two, and below 64, since K is at most 5
-module _ (K i a b : ℕ) (group : Group) (g : group ≡ group_of K) (k : SymbolsInRange K) (t : Bool) (e : t ≡ serves_within group.banks i (record { a = a; b = b })) where
-  pub as_served : t ≡ serves K i (record { a = a; b = b })
-  as_served = e ∙ ap (λ (N : ℕ). serves_within N i (record { a = a; b = b })) (banks_of_lem K g)
+module _ (K i a b : ℕ) (group : Group) (g : group ≡ group_of K) (k : SymbolsInRange K) (t : Bool)
+    (e : t ≡ serves (between 1 group.banks) i (record { a = a; b = b })) where
+  pub as_served : t ≡ serves (is_bank K) i (record { a = a; b = b })
+  as_served = e ∙ ap (λ (N : ℕ). serves (between 1 N) i (record { a = a; b = b })) (banks_of_lem K g)
 
   pub first_below : t ≡ true → a < 64
-  first_below h = let s = serves_sound K i (record { a = a; b = b }) (sym as_served ∙ h) in let m = pow_mono k.most in omega arith
+  first_below h = omega (arith, first_to K (λ b e. e) (serves_sound (is_bank K) i (record { a = a; b = b }) (sym as_served ∙ h)), pow_mono k.most)
 
   pub second_below : t ≡ true → b < 64
-  second_below h = let s = serves_sound K i (record { a = a; b = b }) (sym as_served ∙ h) in omega (arith, first_below h)
+  second_below h = omega (arith, first_below h, (serves_sound (is_bank K) i (record { a = a; b = b }) (sym as_served ∙ h)).above)
 
 -- ---- the pairs of some bytes
 
@@ -54,14 +57,14 @@ many_chunks zero bytes = refl
 many_chunks (suc k) bytes = ap suc (many_chunks k (drop 2 bytes))
 
 -- what stands at place n of the pairs' chunks, each with the symbol of its read
-pub zipped : (counts bytes : List ℕ) (n : ℕ) (chunk : List ℕ) (i : ℕ) → length bytes ≡ total counts * 2
+pub zipped : (counts bytes : List ℕ) (n : ℕ) (chunk : List ℕ) (i : ℕ) → length bytes ≡ sum counts * 2
     → let both = zip (first_chunks 2 (length bytes / 2) bytes) (reads_of counts) in
     (n < length both) × ((chunk, i) ≡ get_or both n (chunk, i))
-    → (n < total counts) × (i ≡ get_or (reads_of counts) n 0) × (record { a = get_or chunk 0 0; b = get_or chunk 1 0 } ≡ pair_at (pairs_of bytes) n)
+    → (n < sum counts) × (i ≡ get_or (reads_of counts) n 0) × (record { a = get_or chunk 0 0; b = get_or chunk 1 0 } ≡ pair_at (pairs_of bytes) n)
 zipped counts bytes n chunk i e h =
     let chunks = first_chunks 2 (length bytes / 2) bytes in
     let many : length chunks ≡ length bytes / 2 = many_chunks (length bytes / 2) bytes in
-    let less : n < total counts = omega (arith, h.0, length-zip chunks (reads_of counts), many, length_reads counts, e) in
+    let less : n < sum counts = omega (arith, h.0, length-zip chunks (reads_of counts), many, length_reads counts, e) in
     let at = h.1 ∙ get_or-zip chunks (reads_of counts) n (chunk, i) (omega (arith, many)) (omega (arith, length_reads counts)) in
     let here : chunk ≡ get_or chunks n [] = ap (λ (p : List ℕ × ℕ). p.0) at ∙ get_or_default chunks n chunk [] (omega (arith, many)) in (
       less,
@@ -70,8 +73,8 @@ zipped counts bytes n chunk i e h =
     )
 
 -- and where all of it has been gone over, so have the reads
-pub zipped_all : (counts bytes : List ℕ) (n : ℕ) → length bytes ≡ total counts * 2
-    → n ≡ length (zip (first_chunks 2 (length bytes / 2) bytes) (reads_of counts)) → total counts ≤ n
+pub zipped_all : (counts bytes : List ℕ) (n : ℕ) → length bytes ≡ sum counts * 2
+    → n ≡ length (zip (first_chunks 2 (length bytes / 2) bytes) (reads_of counts)) → sum counts ≤ n
 zipped_all counts bytes n e h =
     let chunks = first_chunks 2 (length bytes / 2) bytes in
     omega (arith, length-zip chunks (reads_of counts), many_chunks (length bytes / 2) bytes, length_reads counts)

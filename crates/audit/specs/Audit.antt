@@ -1,26 +1,27 @@
 -- The audit: whether bytes are a plan for the counts.
-use Rattle.std.specs.Prelude.{◌≡◌, Bool, true, false, ◌&&◌, cond, List, [], ◌∷◌, ℕ, ◌+◌, ◌-◌, ◌*◌, ◌%◌, ◌≤◌, leb, eqb, length, get_or, drop, Result, Ok, Option, Some, None}
+use Rattle.std.specs.Prelude.{◌≡◌, Bool, true, false, ◌&&◌, if◌then◌else◌, List, [], ◌∷◌, ℕ, ◌+◌, ◌-◌, ◌*◌, ◌%◌, ◌≤◌, ◌==◌, nat_le, length, slice_index, drop, sum, Result, Ok, Option, Some, None}
 use Rattle.std.specs.List.{list_all}
 use Rattle.refusals.specs.declared.Refusal.{Refusal}
 use Rattle.refusals.specs.declared.Reason.TheVariants as reason
 use Rattle.refusals.specs.Verdict.{Verdict, between, check, answer_by, ◌then◌}
-use Rattle.simplex.specs.Shape.{least_symbols, most_symbols, SymbolsInRange}
-use Rattle.simplex.specs.Limit.{total}
+use Rattle.simplex.specs.declared.TheConstants.{LEAST_SYMBOLS, MOST_SYMBOLS}
+use Rattle.simplex.specs.Shape.{SymbolsInRange, is_bank}
 use Rattle.audit.specs.Plan.{Pair, is_plan, IsPlan}
 
 -- Every count is 0.
 abbrev pub all_zero : List ℕ → Bool
-all_zero counts = list_all (λ c. eqb c 0) counts
+all_zero counts = list_all (λ c. c == 0) counts
 
 -- The refusals of a request vector: 1, K is out of its range; 11, a count for a symbol from K on is not 0.
 abbrev pub counts_refusal : ℕ → List ℕ → Verdict
-counts_refusal K counts = check reason.SymbolsOutOfRange 0 (between least_symbols most_symbols K) then check reason.ForeignCount 0 (all_zero (drop K counts))
+counts_refusal K counts =
+    check reason.SymbolsOutOfRange 0 (between LEAST_SYMBOLS MOST_SYMBOLS K) then check reason.ForeignCount 0 (all_zero (drop K counts))
 
 -- A request vector of a group of K symbols, in words: five counts, those from K on being 0.
 pub record RequestOf (K : ℕ) (counts : List ℕ) : Type 0 where
   pub symbols : SymbolsInRange K
-  pub size : length counts ≡ most_symbols
-  pub beyond : (i : ℕ) → K ≤ i → get_or counts i 0 ≡ 0
+  pub size : length counts ≡ MOST_SYMBOLS
+  pub beyond : (i : ℕ) → K ≤ i → slice_index counts i ≡ 0
 
 -- The pairs that bytes stand for, two bytes each: a, then b.
 abbrev pub pairs_of : List ℕ → List Pair
@@ -30,7 +31,7 @@ pairs_of (a ∷ b ∷ bytes) = record { a = a; b = b } ∷ pairs_of bytes
 
 -- Pair n of them: byte 2n and the byte after it.
 abbrev pub pair_in : List ℕ → ℕ → Pair
-pair_in bytes n = record { a = get_or bytes (n * 2) 0; b = get_or bytes (n * 2 + 1) 0 }
+pair_in bytes n = record { a = slice_index bytes (n * 2); b = slice_index bytes (n * 2 + 1) }
 
 -- The bytes of some pairs.
 abbrev pub pair_bytes : List Pair → List ℕ
@@ -49,14 +50,14 @@ No = Ok false
 
 -- What the audit answers: a refusal, or yes exactly if the bytes are an even count and their pairs a plan.
 unfoldable pub audit_of : ℕ → List ℕ → List ℕ → Audited
-audit_of K counts bytes = answer_by (eqb (length bytes % 2) 0 && is_plan K counts (pairs_of bytes)) (counts_refusal K counts)
+audit_of K counts bytes = answer_by (length bytes % 2 == 0 && is_plan (is_bank K) counts (pairs_of bytes)) (counts_refusal K counts)
 
 -- When it says yes, in words.
 pub record PlanIn (K : ℕ) (counts bytes : List ℕ) : Type 0 where
   pub request : RequestOf K counts
   pub even : length bytes % 2 ≡ 0
-  pub plan : IsPlan K counts (pairs_of bytes)
+  pub plan : IsPlan (is_bank K) counts (pairs_of bytes)
 
 -- What the counts leave of a number: nothing where they total more.
 abbrev pub rest_of : ℕ → List ℕ → Option ℕ
-rest_of room counts = cond (leb (total counts) room) (Some (room - total counts)) None
+rest_of room counts = if nat_le (sum counts) room then Some (room - sum counts) else None

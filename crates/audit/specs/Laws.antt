@@ -1,20 +1,28 @@
 -- Laws of plans and of the audit, for every K; `few` alone asks that K is at most 5.
-use Rattle.std.specs.Prelude.{◌≡◌, ◌↔◌, true, false, List, map, ℕ, ◌≤◌, ◌<◌, length}
-use Rattle.simplex.specs.Shape.{most_symbols, most_pairs, limit_of}
-use Rattle.simplex.specs.Limit.{total, reads_of, ServedBy}
+use Rattle.std.specs.Prelude.{◌≡◌, ◌↔◌, Bool, true, false, List, map, ℕ, ◌≤◌, ◌<◌, length, sum}
+use Rattle.simplex.specs.declared.TheConstants.{MOST_SYMBOLS, MOST_PAIRS}
+use Rattle.simplex.specs.Shape.{limit_of, is_bank}
+use Rattle.simplex.specs.Limit.{reads_of, ServedBy}
 use Rattle.audit.specs.Plan.{Pair, opened, is_plan, IsPlan}
 use Rattle.audit.specs.Audit.{Yes, audit_of, PlanIn}
 
--- words: the test passes exactly the lists of pairs that are a plan in words.
+-- The banks that may be used are banks of a group of K symbols.
+abbrev pub AreBanks : (K : ℕ) → (ℕ → Bool) → Type 0
+AreBanks K usable = (b : ℕ) → usable b ≡ true → is_bank K b ≡ true
+
+-- words: the test passes exactly the lists of pairs that are a plan in words, whichever banks may be used.
 -- yes: an audit of five counts says yes exactly if they are a request, and the bytes are an even count and a plan for it.
 -- served: the banks that a plan's pairs open serve its reads.
 -- limit: no list of pairs is a plan for counts that total more than 2^(K-1).
 -- never: so an audit of such counts never says yes, whatever the bytes are.
 -- few: where K is at most 5, a plan has at most sixteen pairs.
 pub record ThePlans : Type 0 where
-  pub words : (K : ℕ) (counts : List ℕ) (pairs : List Pair) → (is_plan K counts pairs ≡ true) ↔ IsPlan K counts pairs
-  pub yes : (K : ℕ) (counts bytes : List ℕ) → length counts ≡ most_symbols → (audit_of K counts bytes ≡ Yes) ↔ PlanIn K counts bytes
-  pub served : (K P : ℕ) (counts : List ℕ) (pairs : List Pair) → IsPlan K counts pairs → ServedBy K P (reads_of counts) (map opened pairs)
-  pub limit : (K : ℕ) (counts : List ℕ) (pairs : List Pair) → limit_of K < total counts → is_plan K counts pairs ≡ false
-  pub never : (K : ℕ) (counts bytes : List ℕ) → limit_of K < total counts → audit_of K counts bytes ≡ Yes → ⊥
-  pub few : (K : ℕ) (counts : List ℕ) (pairs : List Pair) → K ≤ most_symbols → is_plan K counts pairs ≡ true → length pairs ≤ most_pairs
+  pub words : (usable : ℕ → Bool) (counts : List ℕ) (pairs : List Pair) → (is_plan usable counts pairs ≡ true) ↔ IsPlan usable counts pairs
+  pub yes : (K : ℕ) (counts bytes : List ℕ) → length counts ≡ MOST_SYMBOLS → (audit_of K counts bytes ≡ Yes) ↔ PlanIn K counts bytes
+  pub served : (K P : ℕ) (usable : ℕ → Bool) (counts : List ℕ) (pairs : List Pair) → AreBanks K usable → IsPlan usable counts pairs
+      → ServedBy K P (reads_of counts) (map opened pairs)
+  pub limit : (K : ℕ) (usable : ℕ → Bool) (counts : List ℕ) (pairs : List Pair) → AreBanks K usable → limit_of K < sum counts
+      → is_plan usable counts pairs ≡ false
+  pub never : (K : ℕ) (counts bytes : List ℕ) → limit_of K < sum counts → audit_of K counts bytes ≡ Yes → ⊥
+  pub few : (K : ℕ) (usable : ℕ → Bool) (counts : List ℕ) (pairs : List Pair) → AreBanks K usable → K ≤ MOST_SYMBOLS
+      → is_plan usable counts pairs ≡ true → length pairs ≤ MOST_PAIRS

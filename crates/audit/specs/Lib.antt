@@ -2,4 +2,3 @@
 pub mod Plan
 pub mod Audit
 pub mod Laws
-pub mod Parts

@@ -1,12 +1,12 @@
 // The judging of a request's counts, and the audit of a plan.
 #![tactic(auto)]
 
-ghost use Rattle.std.specs.Prelude.{◌≡◌, ◌*◌, ◌<◌, length, get_or};
-ghost use Rattle.simplex.specs.Shape.{SymbolsInRange, most_symbols};
-ghost use Rattle.simplex.specs.Limit.{total, reads_of};
-ghost use Rattle.audit.specs.Plan.{serves_within, is_plan};
+ghost use Rattle.std.specs.Prelude.{◌≡◌, ◌*◌, ◌<◌, ◌&&◌, ◌==◌, not, length, sum};
+ghost use Rattle.bits.specs.Marks.{marked};
+ghost use Rattle.refusals.specs.Verdict.{between};
+ghost use Rattle.simplex.specs.Shape.{SymbolsInRange, is_bank};
+ghost use Rattle.audit.specs.Plan.{serves, is_plan};
 ghost use Rattle.audit.specs.Audit.{all_zero, counts_refusal, rest_of, pairs_of, audit_of};
-ghost use Rattle.audit.specs.Parts.{bank_toggled};
 ghost use Rattle.audit.specs.Laws.{ThePlans};
 
 use refusals::{Reason, Refusal, Verdict, check, is_between};
@@ -38,54 +38,58 @@ pub fn judge_counts(k: usize, counts: [usize; MOST_SYMBOLS]) -> Verdict
     check(are_zero(&counts[k..]), Reason::ForeignCount, 0)
 }
 
-// What the counts leave of `room`; nothing where they total more. They are taken from it one by one, since their sum may be no number of the machine.
+// What the counts leave of `room`; nothing where they total more. They are taken from it one by one, since their sum may be no number of
+// the machine.
 pub fn take_from(room: usize, counts: [usize; MOST_SYMBOLS]) -> Option<usize>
     ensures { result ≡ rest_of room counts }
 {
     counts.iter().try_fold(room, |left, c| left.checked_sub(*c))
 }
 
-// Whether the pair of banks a and b serves symbol i in a group.
-fn serves_symbol(group: Group, i: usize, a: usize, b: usize) -> bool
-    requires { i < most_symbols }
-    ensures { result ≡ serves_within group.banks i (record { a = a; b = b }) }
+// Whether the group has a bank of this number.
+fn is_bank(group: Group, bank: usize) -> bool
+    ensures { result ≡ between 1 group.banks bank }
 {
-    (1..=group.banks).contains(&a) && b <= group.banks && b < a && a ^ b == 1 << i
+    is_between(1, group.banks, bank)
 }
 
-// The marks with that of bank b toggled. No `Option`: the rules' pairs have b = 0 for no second bank, and the definitions take it so.
-fn toggle_bank(set: u64, b: usize) -> u64
-    requires { b < 64 }
-    ensures { result ≡ bank_toggled set b }
+// Whether the pair of banks a and b serves a symbol in a group.
+fn serves_symbol(group: Group, symbol: usize, a: usize, b: usize) -> bool
+    requires { symbol < MOST_SYMBOLS }
+    ensures { result ≡ serves (between 1 group.banks) symbol (record { a = a; b = b }) }
 {
-    if b == 0 {
-        return set;
-    }
-    bits::toggle(set, b)
+    is_bank(group, a) && (b == 0 || is_bank(group, b)) && b < a && a ^ b == 1 << symbol
 }
 
-// Whether the bytes, two for each read, are a plan for the counts. Bank b is marked in `used` where a pair before the one at hand opens it.
+// Whether a bank is among those met. No `Option`: the rules' pairs have b = 0 for no second bank, and the definitions take it so.
+fn is_met(met: u64, bank: usize) -> bool
+    requires { bank < 64 }
+    ensures { result ≡ (not (bank == 0) && marked met bank) }
+{
+    bank != 0 && bits::is_marked(met, bank)
+}
+
+// Whether the bytes, two for each read, are a plan for the counts. Bank b is marked in `met` where a pair before the one at hand opens it.
 // K and the counts come apart, as in the definitions; what the planner needs of a judged request besides, its own type keeps.
-#[tactic(auto, using(crate::proofs::Pairs::second_below))]
 fn audit_pairs(k: usize, counts: [usize; MOST_SYMBOLS], bytes: &[u8]) -> bool
     requires symbols_in_range { SymbolsInRange k }
-    requires even { length bytes.now ≡ total counts * 2 }
-    ensures { result ≡ is_plan k counts (pairs_of bytes.now) }
+    requires even { length bytes.now ≡ sum counts * 2 }
+    ensures { result ≡ is_plan (is_bank k) counts (pairs_of bytes.now) }
 {
     let group = simplex::group_of(k);
-    let mut used = 0;
+    let mut met = 0;
     let (pairs, _) = bytes.as_chunks::<2>();
     // The symbol of each read: the reads stand symbol by symbol.
     let symbols = counts
         .iter()
         .enumerate()
         .flat_map(|(i, c)| iter::repeat_n(i, *c));
-    for ([a, b], i) in pairs.iter().zip(symbols) {
+    for ([a, b], symbol) in pairs.iter().zip(symbols) {
         let (a, b) = (usize::from(*a), usize::from(*b));
-        if !serves_symbol(group, i, a, b) || bits::is_marked(used, a) || bits::is_marked(used, b) {
+        if !serves_symbol(group, symbol, a, b) || is_met(met, a) || is_met(met, b) {
             return false;
         }
-        used = toggle_bank(toggle_bank(used, b), a);
+        met = bits::with_number(bits::with_number(met, b), a);
     }
     true
 }

@@ -1,47 +1,22 @@
--- Laws of marks: one toggled, the others left alone, none from a number on, and how many they are; and of how many numbers pass any test.
+-- Laws of marks: none from a number on, and how many they are; and of how many numbers pass any test.
 use mathlib.Core.Path.{◌≡◌, refl, sym, ap, ap₂, ◌∙◌}
 use mathlib.Core.Logic.{◌≢◌, ⊎_elim}
 use mathlib.Core.Bool.{Bool, true, false, not, ◌&&◌, cond, false≢true}
 use Prim.Native.Nat.{ℕ, zero, suc, ◌+◌, ◌-◌, ◌*◌, ◌/◌, ◌%◌, ◌^◌, ◌≤◌, ◌<◌}
-use native.Mathlib.Nat.{le_refl, div-eq_of_lt, one-mul, eq-or-lt_of_le, le_of_suc-le-suc, mod-lt, mod-eq_of_lt, mod-one, add-zero, div-one, pow-suc}
+use native.Mathlib.Nat.{le_refl, one-mul, eq-or-lt_of_le, le_of_suc-le-suc, mod-lt, mod-eq_of_lt, mod-one, add-zero, div-one, pow-suc}
 use native.Mathlib.Omega.{arith}
 use native.Mathlib.Decide.{le_ind}
 use borrow.Author.Tests.{eq-eqb, ne_eqb, eqb-true, eqb-false, ltb-true, ltb-false}
-use lib.Bits.{bit_xor, xor_shr, xor_zero_r}
 use lib.Count.{ones, ones_cat}
 use lib.Dec.{eqb, ltb, lit<}
-use lib.Pow.{pow_pos, pow-lt, shl_exact, shr-shr, mod-pow-add}
-use Rattle.std.proofs.lemmas.Nat.Bits.{bit_at-pow_same, bit_at-pow_other, same_from_bits}
+use lib.Pow.{pow_pos, shl_exact, shr-shr, mod-pow-add}
+use Rattle.std.proofs.lemmas.Nat.Bits.{same_from_bits}
 use Rattle.bits.specs.Bits.{bit}
-use Rattle.bits.specs.Marks.{marked, toggled, none_from, how_many}
-use Rattle.bits.proofs.Digits.{digit, low_lt, xor_low}
+use Rattle.bits.specs.Marks.{marked, none_from, how_many}
+use Rattle.bits.proofs.Digits.{digit, low_lt}
 use Rattle.bits.proofs.Bits.{bit_half, bit_zero}
 
--- ---- one mark toggled
-
--- 2^i has bit i alone
-pub power_itself : (i : ℕ) → bit (2 ^ i) i ≡ 1
-power_itself = bit_at-pow_same
-
-power_other : (i j : ℕ) → i ≢ j → bit (2 ^ i) j ≡ 0
-power_other i j ne = bit_at-pow_other i j (λ e. ne (sym e))
-
-bit_toggled : (set i j : ℕ) → bit (toggled set i) j ≡ bit_xor (bit set j) (bit (2 ^ i) j)
-bit_toggled set i j = ap (λ (n : ℕ). n % 2) (xor_shr set (2 ^ i) j) ∙ xor_low (set / 2 ^ j) (2 ^ i / 2 ^ j)
-
-pub toggled_itself : (set i : ℕ) → marked (toggled set i) i ≡ not (marked set i)
-toggled_itself set i =
-    ap (λ (d : ℕ). eqb d 1) (bit_toggled set i i ∙ ap (bit_xor (bit set i)) (power_itself i))
-    ∙ digit (λ (d : ℕ). eqb (bit_xor d 1) 1 ≡ not (eqb d 1)) refl refl (bit set i) (low_lt (set / 2 ^ i))
-
-pub toggled_other : (set i j : ℕ) → i ≢ j → marked (toggled set i) j ≡ marked set j
-toggled_other set i j ne = ap (λ (d : ℕ). eqb d 1) (bit_toggled set i j ∙ ap (bit_xor (bit set j)) (power_other i j ne) ∙ xor_zero_r (bit set j))
-
 -- ---- none from a number on
-
-pub toggled_below : (set i n : ℕ) → i < n → none_from set n ≡ true → none_from (toggled set i) n ≡ true
-toggled_below set i n l e =
-    eq-eqb _ _ (xor_shr set (2 ^ i) n ∙ ap₂ bit_xor (eqb-true (set / 2 ^ n) 0 e) (div-eq_of_lt (pow-lt l)))
 
 pub bit_shr : (set n i : ℕ) → bit (set / 2 ^ n) i ≡ bit set (n + i)
 bit_shr set n i = ap (λ (x : ℕ). x % 2) (shr-shr set n i)

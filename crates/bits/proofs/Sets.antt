@@ -1,18 +1,19 @@
 -- Laws of the set of what passes a test, and of the first number in a set.
 use mathlib.Core.Path.{◌≡◌, refl, sym, ap, ◌∙◌}
-use mathlib.Core.Bool.{Bool, true, false, ◌&&◌, not, cond, false≢true}
+use mathlib.Core.Bool.{Bool, true, false, ◌&&◌, ◌||◌, not, cond, false≢true}
 use mathlib.Core.Logic.{◌≢◌, ⊎_elim}
 use Rattle.std.specs.Prelude.{Option, Some, None}
-use Prim.Native.Nat.{ℕ, zero, suc, min, ◌-◌, ◌*◌, ◌/◌, ◌^◌, ◌≤◌, ◌<◌}
-use native.Mathlib.Nat.{div-eq_of_lt, one-mul, zero-mul, eq-or-lt_of_le, le_of_suc-le-suc, div-lt_iff_lt-mul}
+use Prim.Native.Nat.{ℕ, zero, suc, min, ◌-◌, ◌*◌, ◌/◌, ◌%◌, ◌^◌, ◌≤◌, ◌<◌}
+use native.Mathlib.Nat.{div-eq_of_lt, mod-lt, one-mul, zero-mul, eq-or-lt_of_le, le_of_suc-le-suc, div-lt_iff_lt-mul}
 use native.Mathlib.Omega.{arith}
-use borrow.Author.Tests.{eq-eqb, eqb-true, ltb-true, ltb-false}
-use lib.Bits.{bit_and, and_lt}
+use borrow.Author.Tests.{eq-eqb, ne_eqb, eqb-true, ltb-true, ltb-false}
+use lib.Bits.{bit_and, bit_or, and_lt, or_lt}
 use lib.Dec.{eqb, ltb}
 use lib.Pow.{pow_pos, pow_mono}
 use Rattle.std.specs.Int.{bit_not, trailing_zeros}
 use mir.Syntax.{w64}
-use Rattle.std.proofs.lemmas.Nat.Bits.{bit_at_and, bit_at_not, ones_shr, bit_at_ones, bit_at_ones_above, bit_at-trailing_zeros}
+use Rattle.std.proofs.lemmas.Nat.Bits.{bit_at_and, bit_at_not, ones_shr, bit_at_ones, bit_at_ones_above, bit_at-trailing_zeros, bit_at_set_same, bit_at_set_other, bit_at_clear_same, bit_at_clear_other}
+use Rattle.std.proofs.lemmas.Bool.{cases_eq}
 use Rattle.bits.specs.Bits.{bit}
 use Rattle.bits.specs.Marks.{marked}
 use Rattle.bits.specs.Sets.{set_of, First}
@@ -109,6 +110,24 @@ without_set set other hs ho =
     only_set _ 64 _ (and_lt 64 set (bit_not w64 other) hs (omega arith))
     (λ i l. alike (bit_at_and set (bit_not w64 other) i ∙ ap (min (bit set i)) (bit_at_not w64 other i ho l))
     ∙ and_other (bit set i) (bit other i) (low_lt (set / 2 ^ i)) (low_lt (other / 2 ^ i)))
+
+-- one number put in, one taken out
+module _ (set k : ℕ) (h : set < 2 ^ 64) (l : k < 64) where
+  pub with_set : bit_or set (1 * 2 ^ k % 2 ^ 64) ≡ set_of (λ i. eqb i k || marked set i) 64
+  with_set =
+      only_set _ 64 _ (or_lt 64 set (1 * 2 ^ k % 2 ^ 64) h (mod-lt _ (pow_pos 64)))
+      (λ i _. ⊎_elim
+      (λ (e : i ≡ k). rw (e, eq-eqb k k refl) (alike (bit_at_set_same w64 set k l)))
+      (λ n. rw (ne_eqb i k n) (alike (bit_at_set_other w64 set k l i n)))
+      (cases_eq i k))
+
+  pub taken_set : bit_and set (bit_not w64 (1 * 2 ^ k % 2 ^ 64)) ≡ set_of (λ i. not (eqb i k) && marked set i) 64
+  taken_set =
+      only_set _ 64 _ (and_lt 64 set (bit_not w64 (1 * 2 ^ k % 2 ^ 64)) h (omega arith))
+      (λ i b. ⊎_elim
+      (λ (e : i ≡ k). rw (e, eq-eqb k k refl) (alike (bit_at_clear_same w64 set k l)))
+      (λ n. rw (ne_eqb i k n) (alike (bit_at_clear_other w64 set k l i b n)))
+      (cases_eq i k))
 
 pub below_set : (n : ℕ) → n ≤ 64 → (2 ^ 64 - 1) / 2 ^ (64 - n) ≡ set_of (λ i. ltb i n) 64
 below_set n h =

@@ -1,9 +1,9 @@
-// Sets of numbers below 64, as marks in one word. It has no type of its own, since a caller hands in a set of rows as one word of 64 marks, and
-// the state's field is that word.
+// Sets of numbers below 64, as marks in one word. They have no type of their own, since a caller hands in a set of rows as one word of 64
+// marks.
 #![tactic(auto)]
 
-ghost use Rattle.std.specs.Prelude.{◌≡◌, ◌&&◌, not, ◌≤◌, ◌<◌, ltb};
-ghost use Rattle.bits.specs.Marks.{marked, toggled, none_from, how_many, TheMarks};
+ghost use Rattle.std.specs.Prelude.{◌≡◌, ◌==◌, ◌&&◌, ◌||◌, not, ◌≤◌, ◌<◌, nat_lt};
+ghost use Rattle.bits.specs.Marks.{marked, none_from, how_many, TheMarks};
 ghost use Rattle.bits.specs.Sets.{set_of, First, TheSets};
 
 // How many numbers a word has marks for.
@@ -25,14 +25,6 @@ pub fn is_marked(set: u64, i: usize) -> bool
     ensures { result ≡ marked set i }
 {
     (set >> i) % 2 == 1
-}
-
-// The set with the mark of `i` toggled.
-pub fn toggle(set: u64, i: usize) -> u64
-    requires { i < 64 }
-    ensures { result ≡ toggled set i }
-{
-    set ^ (1 << i)
 }
 
 // Whether nothing from `n` on is marked.
@@ -59,10 +51,28 @@ pub fn count(set: u64) -> usize
 #[tactic(auto, using(crate::proofs::Sets::below_set))]
 pub fn below(n: usize) -> u64
     requires { (1 ≤ n) × (n ≤ 64) }
-    ensures { result ≡ set_of (λ i. ltb i n) 64 }
+    ensures { result ≡ set_of (λ i. nat_lt i n) 64 }
 {
     // With n = 0 the shift would be by a word's whole width.
     u64::MAX >> (MARKS - n)
+}
+
+// The set with `i` put in.
+#[tactic(auto, using(crate::proofs::Sets::with_set))]
+pub fn with_number(set: u64, i: usize) -> u64
+    requires { i < 64 }
+    ensures { result ≡ set_of (λ j. j == i || marked set j) 64 }
+{
+    set | (1 << i)
+}
+
+// The set with `i` taken out.
+#[tactic(auto, using(crate::proofs::Sets::taken_set))]
+pub fn without_number(set: u64, i: usize) -> u64
+    requires { i < 64 }
+    ensures { result ≡ set_of (λ j. not (j == i) && marked set j) 64 }
+{
+    set & !(1 << i)
 }
 
 // The set without what another has.

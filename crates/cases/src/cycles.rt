@@ -1,9 +1,11 @@
-// Read cycles of a memory of eight groups, four rows and packets of three bytes, at each K: the largest mixed cycle, the same with one read more,
-// equal reads, each symbol once in every group but one, and the mixed cycle again after a row is released. tools/cases.py knows the packets and the
-// lists by the formulas below, and judges what is printed.
+// Read cycles of a memory of eight groups, four rows and packets of three bytes, at each K: the largest mixed cycle, the same with one read
+// more, equal reads, each symbol once in every group but one, and the mixed cycle again after a row is released. tools/cases.py knows the
+// packets and the lists by the formulas below, and judges what is printed.
 ghost use Rattle.std.specs.Prelude.{◌≡◌, ◌+◌, ◌*◌, ◌≤◌, ◌<◌, length};
-ghost use Rattle.simplex.specs.Shape.{SymbolsInRange, most_symbols, most_pairs};
-ghost use Rattle.layout.specs.Shape.{most_groups, most_rows, store_size};
+ghost use Rattle.simplex.specs.declared.TheConstants.{MOST_PAIRS};
+ghost use Rattle.simplex.specs.Shape.{SymbolsInRange};
+ghost use Rattle.layout.specs.declared.TheConstants.{MOST_GROUPS};
+ghost use Rattle.layout.specs.Shape.{store_size};
 
 use crate::memories::filled;
 use crate::show::{UNTOUCHED, print_answer, show_read};
@@ -30,12 +32,12 @@ struct Memory<'a> {
     limit: usize,
     state: State,
     store: &'a [u8],
-    ghost reads: { limit ≤ most_pairs },
+    ghost reads: { limit ≤ MOST_PAIRS },
 }
 
 // The generation of a row; one of a smaller K is its first bytes.
 fn generation(row: usize) -> [u8; GENERATION]
-    requires { row < most_rows }
+    requires { row < ROWS }
 {
     // `as`, since u8 has no From<usize>: what is below 251 fits.
     array::from_fn(|n| ((row + 1) * (n * n * 3 + n * 7 + 5) % 251) as u8)
@@ -46,13 +48,13 @@ fn generation(row: usize) -> [u8; GENERATION]
 struct Place {
     group: usize,
     turn: usize,
-    ghost groups: { group < most_groups },
-    ghost turns: { turn ≤ most_pairs },
+    ghost groups: { group < MOST_GROUPS },
+    ghost turns: { turn ≤ MOST_PAIRS },
 }
 
 impl Place {
     fn of(n: usize) -> Place
-        requires { n ≤ most_groups * most_pairs }
+        requires { n ≤ MOST_GROUPS * MOST_PAIRS }
     {
         Place {
             group: n % MOST_GROUPS,
@@ -62,7 +64,7 @@ impl Place {
 
     // A read of this symbol there (row, group, symbol).
     fn read(self, symbol: usize) -> [u8; 3]
-        requires { symbol < most_symbols }
+        requires { symbol < MOST_SYMBOLS }
     {
         // `as`, since u8 has no From<usize>.
         [
@@ -77,7 +79,7 @@ impl Place {
 fn one_colliding() -> [[u8; 3]; READS] {
     array::from_fn(
         |n|
-            requires { n ≤ most_groups * most_pairs }
+            requires { n ≤ MOST_GROUPS * MOST_PAIRS }
         {
             let place = Place::of(n);
             place.read(if place.group == 5 {
@@ -95,7 +97,7 @@ impl Memory<'_> {
         let k = self.geometry.shape.k;
         let mut reads = array::from_fn(
             |n|
-                requires { (n ≤ most_groups * most_pairs) × SymbolsInRange k }
+                requires { (n ≤ MOST_GROUPS * MOST_PAIRS) × SymbolsInRange k }
             {
                 let place = Place::of(n);
                 place.read((place.group * 3 + place.turn * (place.group + 1)) % k)
@@ -107,7 +109,7 @@ impl Memory<'_> {
 
     // A cycle with buffers of the right lengths.
     fn show_cycle(self, rt: &impl Print, reads: &[[u8; 3]]) -> io::Result<()>
-        requires { length reads.now ≤ most_groups * most_pairs + 1 }
+        requires { length reads.now ≤ MOST_GROUPS * MOST_PAIRS + 1 }
     {
         let mut packets = [[UNTOUCHED; BYTES]; READS];
         let mut schedule = [[UNTOUCHED; 2]; READS];

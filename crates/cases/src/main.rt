@@ -1,11 +1,11 @@
 // Plans requests, and audits the plans. First the requests of standard input, one a line: K and five counts, with a space between. (Other
-// characters than digits, spaces and the line feed that ends a line are passed over.) Then every request there is, of every K, that totals at most
-// one read more than the limit. Then read cycles of a memory at each K, served and refused, as cycles.rt says; a small memory, as refused.rt says;
-// releases of row sets, as sets.rt says; last, updates of packets, as updates.rt says.
+// characters than digits, spaces and the line feed that ends a line are passed over.) Then every request there is, of every K, that totals
+// at most one read more than the limit. Then read cycles of a memory at each K, served and refused, as cycles.rt says; a small memory, as
+// refused.rt says; releases of row sets, as sets.rt says; last, updates of packets, as updates.rt says.
 //
-// With L = 2^(K-1), C(L+K, K) requests total at most L and ask K * C(L+K, K+1) reads, and C(L+K, K-1) total L + 1. tools/cases.py computes these,
-// and judges each plan and refusal of the first part by the words of the rules: which plan a request gets is free, except where no symbol is
-// read more than once (2^K requests). All plans but that of no reads have a first pair.
+// With L = 2^(K-1), C(L+K, K) requests total at most L and ask K * C(L+K, K+1) reads, and C(L+K, K-1) total L + 1. tools/cases.py computes
+// these, and judges each plan and refusal of the first part by the words of the rules: which plan a request gets is free, except where no
+// symbol is read more than once (2^K requests). All plans but that of no reads have a first pair.
 #![tactic(auto)]
 
 ghost use Rattle.std.specs.Prelude.{◌≤◌, ◌<◌};
@@ -27,8 +27,8 @@ use std::{array, fmt, io, mem};
 // The bytes of standard input that are read.
 const MOST_REQUESTS: usize = 4096;
 
-// What is asked of one group: its K, and how often each symbol is read. It is input that nothing has judged, so it may be one that plan's own Request,
-// which is within the limit, cannot be.
+// What is asked of one group: its K, and how often each symbol is read. It is input that nothing has judged, so it may be one that plan's
+// own Request, which is within the limit, cannot be.
 #[derive(Clone, Copy, Debug, PartialEq, Eq)]
 struct Request {
     k: usize,
@@ -39,9 +39,9 @@ struct Request {
 #[derive(Clone, Copy, Debug, PartialEq, Eq)]
 struct Pairs(Plan);
 
-// What a run over many requests counts: those within the limit, the plans that the audit says yes to and their pairs, the plans that open one bank a
-// read for requests that read no symbol twice, the requests of one read more, the refusals by number 12, and the plans, each with the banks of its
-// first pair exchanged, that the audit says no to. No run comes near the largest number.
+// What a run over many requests counts: those within the limit, the plans that the audit says yes to and their pairs, the plans that open
+// one bank a read for requests that read no symbol twice, the requests of one read more, the refusals by number 12, and the plans, each
+// with the banks of its first pair exchanged, that the audit says no to. No run comes near the largest number.
 #[derive(Clone, Copy, Debug, Default, PartialEq, Eq)]
 struct Tally {
     within: Saturating<usize>,
@@ -203,8 +203,8 @@ fn show_requests(rt: &impl Print, k: usize) -> io::Result<()>
     println!(rt; "K {k}: {tally}")
 }
 
-// A number with one more decimal digit; one that may not fit becomes the largest. (`saturating_mul` and `saturating_add` would leave the last five below
-// it as they are, and print them otherwise.)
+// A number with one more decimal digit; one that may not fit becomes the largest. (`saturating_mul` and `saturating_add` would leave the
+// last five below it as they are, and print them otherwise.)
 fn with_digit(number: usize, digit: usize) -> usize
     requires { digit < 10 }
 {
@@ -215,7 +215,8 @@ fn with_digit(number: usize, digit: usize) -> usize
     }
 }
 
-// The number that the digits of a text make. No `parse`: characters between the digits are passed over, and a number that is too large is no error.
+// The number that the digits of a text make. No `parse`: characters between the digits are passed over, and a number that is too large is
+// no error.
 fn number_of(text: &[u8]) -> usize {
     // `as`, since usize has no From<u32>.
     text.iter()

@@ -18,12 +18,10 @@ pub fn filled(store: &mut [u8], shape: Shape, rows: &[(usize, &[u8])]) -> State 
 }
 
 impl<const N: usize> Memory<N> {
-    // With row 2 marked, which is not there: these memories have two rows.
+    // With row 2 full, which is not there: these memories have two rows.
     pub fn broken(self) -> Memory<N> {
-        let state = State {
-            full: 0b111,
-            ..self.state
-        };
+        let rows = self.state.rows.with_full(2);
+        let state = State { rows, ..self.state };
         Memory { state, ..self }
     }
 }

@@ -1,5 +1,5 @@
-// A small memory: its whole store, and the refusals that no session meets (5, 6 and 16), each where later numbers apply too. It has K = 2, two groups,
-// packets of one byte and two rows. Last, the refusals of an audit. tools/cases.py has the answers by the words of the rules.
+// A small memory: its whole store, and the refusals that no session meets (5, 6 and 16), each where later numbers apply too. It has K = 2,
+// two groups, packets of one byte and two rows. Last, the refusals of an audit. tools/cases.py has the answers by the words of the rules.
 ghost use Rattle.std.specs.Prelude.{◌≤◌};
 
 use crate::memories::Memory;
@@ -66,8 +66,9 @@ impl Memory<STORE> {
         print_answer(rt, released.state.release(1))
     }
 
-    // A list of three reads of group 1, the last of a symbol that is not there, and buffers that are too long: 5, 6, 13, 15. With three reads that are
-    // there: 12. With two: 16 for the output, 16 for the schedule, served. A refused cycle leaves the buffers as they are, so the next one gets them.
+    // A list of three reads of group 1, the last of a symbol that is not there, and buffers that are too long: 5, 6, 13, 15. With three
+    // reads that are there: 12. With two: 16 for the output, 16 for the schedule, served. A refused cycle leaves the buffers as they are,
+    // so the next one gets them.
     fn show_cycles(self, rt: &impl Print) -> io::Result<()> {
         let wrong = [0, 1, 0, 1, 1, 1, 0, 1, 2];
         let right = [0, 1, 0, 1, 1, 1, 0, 1, 1];

@@ -1,5 +1,5 @@
-// Releases of row sets: a memory with K = 2, one group, packets of one byte and six rows, of which 0, 1, 3 and 5 are full. tools/cases.py has the
-// answers by the words of the request.
+// Releases of row sets: a memory with K = 2, one group, packets of one byte and six rows, of which 0, 1, 3 and 5 are full. tools/cases.py
+// has the answers by the words of the request.
 use crate::memories::filled;
 use crate::show::print_outcome;
 use layout::Shape;
@@ -22,15 +22,15 @@ fn show(rt: &impl Print, state: State, set: u64) -> io::Result<State> {
     Ok(outcome.state)
 }
 
-// Rows 2 and 6, where row 6 is marked as full but is not there: 5. Rows 1, 2, 6 and 63: 7 at row 6, though row 2 is empty. Rows 0, 2, 4 and 5: 9 at row 2.
-// No row; then rows 0 and 3, and 1 and 5: accepted.
+// Rows 2 and 6, where row 6 is full but is not there: 5. Rows 1, 2, 6 and 63: 7 at row 6, though row 2 is empty. Rows 0, 2, 4 and 5: 9 at
+// row 2. No row; then rows 0 and 3, and 1 and 5: accepted.
 pub fn run(rt: &impl Print) -> io::Result<()> {
     println!(rt; "row sets")?;
     let generation: &[u8] = &[0x5a, 0x3c];
     let rows = [0, 1, 3, 5].map(|row| (row, generation));
     let state = filled(&mut [0; STORE], SHAPE, &rows);
     let broken = State {
-        full: 0x6b,
+        rows: state.rows.with_full(6),
         ..state
     };
     show(rt, broken, 0x44)?;

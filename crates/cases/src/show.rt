@@ -6,7 +6,8 @@ use std::io;
 // What the buffers hold before a cycle.
 pub const UNTOUCHED: u8 = 238;
 
-// The program example has texts of its own for an answer and a cycle: those are for people, these for tools/cases.py, which wants each place and buffer.
+// The program example has texts of its own for an answer and a cycle: those are for people, these for tools/cases.py, which wants each
+// place and buffer.
 pub fn print_answer(rt: &impl Print, outcome: Outcome) -> io::Result<()> {
     match outcome.answer {
         Ok(answer) => println!(rt; "{answer}"),
@@ -17,7 +18,7 @@ pub fn print_answer(rt: &impl Print, outcome: Outcome) -> io::Result<()> {
 // An operation's answer, and the rows that are full then, as marks.
 pub fn print_outcome(rt: &impl Print, outcome: Outcome) -> io::Result<()> {
     print_answer(rt, outcome)?;
-    println!(rt; "full {}", outcome.state.full)
+    println!(rt; "full {}", outcome.state.rows.full_set())
 }
 
 pub fn print_store(rt: &impl Print, store: &[u8]) -> io::Result<()> {

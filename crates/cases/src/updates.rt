@@ -1,5 +1,5 @@
-// Updates of packets: a memory with K = 3, two groups, packets of two bytes and two rows, and its whole store after each. tools/cases.py has the answers
-// and the stores by the words of the request.
+// Updates of packets: a memory with K = 3, two groups, packets of two bytes and two rows, and its whole store after each. tools/cases.py
+// has the answers and the stores by the words of the request.
 ghost use Rattle.std.specs.Prelude.{◌≤◌};
 
 use crate::memories::{Memory, filled};
@@ -43,8 +43,9 @@ impl Memory<STORE> {
         print_store(rt, &store)
     }
 
-    // In row 2, group 2, symbol 3, which are not there, with a packet of one byte: 5 with a broken state, 6 with a store that is a byte short, 7; with row 1:
-    // 14; with group 1: 15; with symbol 1: 10, and 10 with a packet of three bytes. With row 1 empty: 15, and with symbol 1: 9.
+    // In row 2, group 2, symbol 3, which are not there, with a packet of one byte: 5 with a broken state, 6 with a store that is a byte
+    // short, 7; with row 1: 14; with group 1: 15; with symbol 1: 10, and 10 with a packet of three bytes. With row 1 empty: 15, and with
+    // symbol 1: 9.
     fn show_refused_updates(mut self, rt: &impl Print) -> io::Result<()> {
         let no_row = PacketName::from([2, 2, 3]);
         let no_group = PacketName::from([1, 2, 3]);
@@ -65,8 +66,9 @@ impl Memory<STORE> {
     }
 }
 
-// Symbol 1 of group 1 in row 1, then symbol 2 of group 0 in row 0; and a cycle that reads the first three times and symbol 0 of its group once. Last, symbol 0
-// of group 1 in row 0 of a store of other bytes, with one of bank 1 (at 28) and one of bank 3 (at 37) unlike the rest.
+// Symbol 1 of group 1 in row 1, then symbol 2 of group 0 in row 0; and a cycle that reads the first three times and symbol 0 of its group
+// once. Last, symbol 0 of group 1 in row 0 of a store of other bytes, with one of bank 1 (at 28) and one of bank 3 (at 37) unlike the
+// rest.
 pub fn run(rt: &impl Print) -> io::Result<()> {
     println!(rt; "updates")?;
     let mut store = [0; STORE];

@@ -1,5 +1,5 @@
 -- Cells. A store is a list of bytes; a cell is what lies at a place of it.
-use Rattle.std.specs.Prelude.{◌≡◌, length, get_or, ◌⊎◌, List, [], ◌∷◌, ℕ, zero, suc, ◌+◌, ◌*◌, ◌≤◌, ◌<◌, take, drop}
+use Rattle.std.specs.Prelude.{◌≡◌, length, slice_index, ◌⊎◌, List, [], ◌∷◌, ℕ, zero, suc, ◌+◌, ◌*◌, ◌≤◌, ◌<◌, take, drop}
 use Rattle.std.specs.Borrow.{Bor}
 
 -- The cell at index `at` of the store s: p bytes, or fewer where the store ends.
@@ -18,11 +18,11 @@ unfoldable pub put_each : (size : ℕ) → (ℕ → List ℕ) → ℕ → List �
 put_each size f zero s = s
 put_each size f (suc n) s = put (put_each size f n s) (n * size) (f n)
 
--- c is what becomes of the cell of p bytes at index `at` of the store s where its bytes are set from the first on, each to what `gives` has for the store as it
--- then is and for the byte's index.
+-- c is what becomes of the cell of p bytes at index `at` of the store s where its bytes are set from the first on, each to what `gives`
+-- has for the store as it then is and for the byte's index.
 abbrev pub SetsTo : (gives : Bor (List ℕ) → ℕ → ℕ → Type 0) → (s : List ℕ) (at p : ℕ) → List ℕ → Type 0
 SetsTo gives s at p c = (length c ≡ p)
-    × ((t : Bor (List ℕ)) (i x : ℕ) → i < p → t.now ≡ put s at (take i c) → gives t i x → x ≡ get_or c i 0)
+    × ((t : Bor (List ℕ)) (i x : ℕ) → i < p → t.now ≡ put s at (take i c) → gives t i x → x ≡ slice_index c i)
 
 -- Byte i lies outside the cell of p bytes at index `at`.
 abbrev pub Outside : (p at i : ℕ) → Type 0

@@ -1,5 +1,6 @@
-// Functions on bytes: each sets one cell of a slice, or the whole slice. A cell is named by the slice and its place in it, and not lent by itself: two of them read
-// another cell of the same slice, and `put`, which the promises of all that set a cell are made of, is of the whole slice.
+// Functions on bytes: each sets one cell of a slice, or the whole slice. A cell is named by the slice and its place in it, and not lent by
+// itself: two of them read another cell of the same slice, and `put`, which the promises of all that set a cell are made of, is of the
+// whole slice.
 #![tactic(auto)]
 
 ghost use Rattle.std.specs.Prelude.{◌≡◌, ◌⊎◌, ◌+◌, ◌≤◌, ◌<◌, ℕ, List, length};
@@ -25,7 +26,8 @@ fn set_cell<F: Fn(&[u8], usize) -> u8>(s: &mut [u8], at: usize, p: usize, byte: 
     }
 }
 
-// The cell of `s` at `at` becomes `src`. With `copy_from_slice`, which calls memcpy, an update at 64 bytes a packet takes 1.4 times as long.
+// The cell of `s` at `at` becomes `src`. With `copy_from_slice`, which calls memcpy, an update at 64 bytes a packet takes 1.4 times as
+// long.
 pub fn copy_into(s: &mut [u8], at: usize, src: &[u8])
     requires { at + length src.now ≤ length s.old }
     ensures { s.new ≡ put s.old at src.now }
@@ -36,9 +38,11 @@ pub fn copy_into(s: &mut [u8], at: usize, src: &[u8])
 // The cell of `s` at `at` becomes the cell at `from` XOR `src`. The cell at `from` lies before it, or
 // starts no earlier than it: so no byte is read after it was set.
 pub fn xor_from(s: &mut [u8], at: usize, from: usize, src: &[u8])
-    requires within { (at + length src.now ≤ length s.old) × (from + length src.now ≤ length s.old) }
+    requires within { (at + length src.now ≤ length s.old)
+        × (from + length src.now ≤ length s.old) }
     requires apart { (from + length src.now ≤ at) ⊎ (at ≤ from) }
-    ensures { s.new ≡ put s.old at (xor_bytes (cell s.old from (length src.now)) src.now) }
+    ensures { let source = cell s.old from (length src.now) in
+        s.new ≡ put s.old at (xor_bytes source src.now) }
 {
     set_cell(s, at, src.len(), |s, i| s[from + i] ^ src[i])
 }
@@ -46,7 +50,9 @@ pub fn xor_from(s: &mut [u8], at: usize, from: usize, src: &[u8])
 // The cell of `s` at `from`, which lies before the one at `at`, and `src` are XORed into the cell at `at`.
 pub fn xor_into(s: &mut [u8], at: usize, from: usize, src: &[u8])
     requires { (at + length src.now ≤ length s.old) × (from + length src.now ≤ at) }
-    ensures { s.new ≡ put s.old at (xor_bytes (cell s.old at (length src.now)) (xor_bytes (cell s.old from (length src.now)) src.now)) }
+    ensures { let own = cell s.old at (length src.now) in
+        let source = cell s.old from (length src.now) in
+        s.new ≡ put s.old at (xor_bytes own (xor_bytes source src.now)) }
 {
     set_cell(s, at, src.len(), |s, i| s[at + i] ^ (s[from + i] ^ src[i]))
 }

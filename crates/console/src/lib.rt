@@ -1,9 +1,9 @@
-// A session over standard input and output. What a line does and answers is said and proved in `steps`; here each line of a text is read, once and
-// in order, and its answer is written.
+// A session over standard input and output. What a line does and answers is said and proved in `steps`; here each line of a text is read,
+// once and in order, and its answer is written.
 #![tactic(auto)]
 
 ghost use Rattle.std.specs.Prelude.{◌≡◌, length, take};
-ghost use Rattle.steps.specs.Session.{most_text, text_done};
+ghost use Rattle.steps.specs.Session.{text_done};
 
 use frames::{MOST_OUTPUT, MOST_STORE};
 use lines::reader::Reader;
@@ -13,13 +13,13 @@ use steps::{MOST_TEXT, Reply, Session};
 // The part of a text that a session reads.
 #[tactic(auto, using(std::proofs::lemmas::List::take_min))]
 fn cut(text: &[u8]) -> &[u8]
-    ensures { result.now ≡ take most_text text.now }
+    ensures { result.now ≡ take MOST_TEXT text.now }
 {
     &text[..MOST_TEXT.min(text.len())]
 }
 
-// Answers each line of a text, from a session and its store on. Gives the session, and how long the whole output is; and whether it was written: after
-// a write that fails the lines are still answered, but nothing more is written.
+// Answers each line of a text, from a session and its store on. Gives the session, and how long the whole output is; and whether it was
+// written: after a write that fails the lines are still answered, but nothing more is written.
 pub fn answer(
     rt: &impl Print,
     text: &[u8],

@@ -1,84 +1,92 @@
--- What the schedule and the output of a served list hold: the line and the packet of each read.
-use mathlib.Core.Path.{◌≡◌, refl, sym, ap, ap₂, ◌∙◌, subst}
-use mathlib.Core.List.{List}
-use Prim.Native.Nat.{ℕ, zero, suc, ◌+◌, ◌*◌, ◌≤◌, ◌<◌}
+-- What the schedule and the output of served reads hold: the line and the packet of each read.
+use Rattle.std.proofs.Common.{ℕ, zero, suc, ◌≡◌, ◌+◌, ◌*◌, ◌≤◌, ◌<◌, List, length, get_or, Contains, refl, sym, ap, ◌∙◌, subst, arith}
+use mathlib.Core.Path.{ap₂}
 use native.Mathlib.Nat.{le_of_eq, add-zero}
-use native.Mathlib.Omega.{arith}
-use lib.ListN.{length, get_or, length-replicate}
+use lib.ListN.{length-replicate}
 use Rattle.cells.specs.Cell.{cell}
 use Rattle.cells.specs.Xor.{xor_bytes, zeros}
 use Rattle.cells.proofs.Turns.{length_xor_cell}
 use Rattle.cells.proofs.Cells.{get_or_cell}
 use Rattle.cells.proofs.Each.{cell_each}
-use Rattle.simplex.specs.Shape.{SymbolsInRange}
-use Rattle.simplex.specs.Limit.{In}
+use Rattle.simplex.specs.Shape.{SymbolsInRange, is_bank}
 use Rattle.audit.specs.Plan.{Pair, opens, opened, Serves}
+use Rattle.audit.proofs.Reading.{first_to, second_to}
 use Rattle.layout.specs.declared.Shape.{Shape}
 use Rattle.layout.specs.Shape.{InRange, banks, store_size, offset, cell_at}
 use Rattle.layout.proofs.Places.{inside}
-use Rattle.reads.specs.Reads.{read_count, row, group, symbol}
+use Rattle.reads.specs.Reads.{Reads, no_read, read_at}
 use Rattle.reads.specs.Parts.{Named, Few}
-use Rattle.cycle.specs.Cycle.{pair_of, xor_of_cells, packet_of, line_of, packets_out, lines_out}
+use Rattle.cycle.specs.Cycle.{Plans, plans_of, pair_of, xor_of_cells, packet_of, line_of, packets_out, lines_out}
 use Rattle.cycle.specs.Served.{line, ServedRead, SystematicLines, OpenedOnce}
-use Rattle.cycle.proofs.Pairs.{pair_systematic, pair_serves, pairs_once}
+use Rattle.cycle.proofs.Pairs.{symbols_below, pair_systematic, Planned, pair_serves, pairs_once, all_planned}
 
 -- ---- the packet that a pair of banks gives has P bytes
 
-module _ (sh : Shape) (s : List ℕ) (size : length s ≡ store_size sh) (x r : ℕ) (group_in : x < sh.m) (row_in : r < sh.g) where
-  in_store : (b : ℕ) → 1 ≤ b → b ≤ banks sh → offset sh x b r + sh.p ≤ length s
-  in_store b l u = rw size (inside sh x b r (record { group = group_in; first = l; last = u; row = row_in }))
+module _ (shape : Shape) (store : List ℕ) (size : length store ≡ store_size shape) (x r : ℕ) (group_in : x < shape.m) (row_in : r < shape.g) where
+  in_store : (b : ℕ) → 1 ≤ b → b ≤ banks shape → offset shape x b r + shape.p ≤ length store
+  in_store b l u = rw size (inside shape x b r (record { group = group_in; first = l; last = u; row = row_in }))
 
-  length_read : (a b : ℕ) → 1 ≤ a → a ≤ banks sh → b ≤ banks sh → length (xor_of_cells sh s x r (opens a b)) ≡ sh.p
-  length_read a zero l u v = length_xor_cell s (offset sh x a r) sh.p (zeros sh.p) (in_store a l u) (length-replicate sh.p 0)
+  length_read : (a b : ℕ) → 1 ≤ a → a ≤ banks shape → b ≤ banks shape → length (xor_of_cells shape store x r (opens a b)) ≡ shape.p
+  length_read a zero l u v = length_xor_cell store (offset shape x a r) shape.p (zeros shape.p) (in_store a l u) (length-replicate shape.p 0)
   length_read a (suc b) l u v =
-      length_xor_cell s (offset sh x a r) sh.p (xor_bytes (cell_at sh s x (suc b) r) (zeros sh.p)) (in_store a l u)
-      (length_xor_cell s (offset sh x (suc b) r) sh.p (zeros sh.p) (in_store (suc b) (omega arith) v) (length-replicate sh.p 0))
+      length_xor_cell store (offset shape x a r) shape.p (xor_bytes (cell_at shape store x (suc b) r) (zeros shape.p)) (in_store a l u)
+      (length_xor_cell store (offset shape x (suc b) r) shape.p (zeros shape.p) (in_store (suc b) (omega arith) v) (length-replicate shape.p 0))
 
 -- ---- the line of each read
 
-module _ (sh : Shape) (reads schedule : List ℕ) (size : length schedule ≡ read_count reads * 2) where
-  pub line_is : (n : ℕ) → n < read_count reads → line (lines_out sh reads schedule) n ≡ pair_of sh.k reads n
+module _ (plans : Plans) (reads : Reads) (schedule : List ℕ) (size : length schedule ≡ length reads * 2) where
+  pub line_is : (n : ℕ) → n < length reads → line (lines_out plans reads schedule) n ≡ pair_of plans reads n
   line_is n l =
-      let both : cell (lines_out sh reads schedule) (n * 2) 2 ≡ line_of sh.k reads n =
-      cell_each 2 (line_of sh.k reads) (read_count reads) schedule (λ j _. refl) (omega arith) n l in
+      let both : cell (lines_out plans reads schedule) (n * 2) 2 ≡ line_of plans reads n =
+      cell_each 2 (line_of plans reads) (length reads) schedule (λ j _. refl) (omega arith) n l in
       ap₂ (λ (a b : ℕ). record { a = a; b = b }) (rw add-zero at (at 0 (omega arith) both)) (at 1 (omega arith) both)
     where
-      at : (f : ℕ) → f < 2 → cell (lines_out sh reads schedule) (n * 2) 2 ≡ line_of sh.k reads n
-          → get_or (lines_out sh reads schedule) (n * 2 + f) 0 ≡ get_or (line_of sh.k reads n) f 0
-      at f h e = sym (get_or_cell (lines_out sh reads schedule) (n * 2) 2 f h) ∙ ap (λ (c : List ℕ). get_or c f 0) e
+      at : (f : ℕ) → f < 2 → cell (lines_out plans reads schedule) (n * 2) 2 ≡ line_of plans reads n
+          → get_or (lines_out plans reads schedule) (n * 2 + f) 0 ≡ get_or (line_of plans reads n) f 0
+      at f h e = sym (get_or_cell (lines_out plans reads schedule) (n * 2) 2 f h) ∙ ap (λ (c : List ℕ). get_or c f 0) e
 
-  pub systematic_lines : SymbolsInRange sh.k → Named sh reads → SystematicLines reads (lines_out sh reads schedule)
-  systematic_lines range named n l free = line_is n l ∙ pair_systematic sh reads range named n l free
+pub systematic_lines : (shape : Shape) (reads : Reads) (schedule : List ℕ) → length schedule ≡ length reads * 2 → SymbolsInRange shape.k
+    → Named shape reads → SystematicLines reads (lines_out (plans_of shape.k reads) reads schedule)
+systematic_lines shape reads schedule size range named n l free =
+    line_is (plans_of shape.k reads) reads schedule size n l ∙ pair_systematic shape.k reads (symbols_below shape reads range named) n l free
 
 -- ---- each read
 
-module _ (sh : Shape) (in_range : InRange sh) (s reads : List ℕ) (size : length s ≡ store_size sh) (named : Named sh reads) (few : Few sh reads) where
-  serves : (n : ℕ) → n < read_count reads → Serves sh.k (symbol reads n) (pair_of sh.k reads n)
-  serves = pair_serves sh reads in_range.symbols named few
+module _ (shape : Shape) (in_range : InRange shape) (store : List ℕ) (reads : Reads) (size : length store ≡ store_size shape) (named : Named shape reads) (few : Few shape reads) where
+  abbrev plans : Plans
+  plans = plans_of shape.k reads
 
-  length_packet : (n : ℕ) → n < read_count reads → length (packet_of sh s reads n) ≡ sh.p
+  planned : Planned shape plans reads
+  planned = all_planned shape reads in_range.symbols named few
+
+  serves : (n : ℕ) → n < length reads → Serves (is_bank shape.k) (read_at reads n).symbol (pair_of plans reads n)
+  serves = pair_serves shape plans reads in_range.symbols named planned
+
+  length_packet : (n : ℕ) → n < length reads → length (packet_of shape plans store reads n) ≡ shape.p
   unfolding packet_of
   length_packet n l =
       let p = serves n l in
-      length_read sh s size (group reads n) (row reads n) (named n l).1 (named n l).0 _ _ p.first_from p.first_to p.second_to
+      let there = named n no_read l in
+      length_read shape store size (read_at reads n).group (read_at reads n).row there.group there.row _ _ (omega (arith, p.above))
+      (first_to shape.k (λ b e. e) p) (second_to shape.k (λ b e. e) p)
 
-  pub packet_is : (out : List ℕ) → length out ≡ read_count reads * sh.p → (n : ℕ) → n < read_count reads
-      → cell (packets_out sh s reads out) (n * sh.p) sh.p ≡ packet_of sh s reads n
-  packet_is out packets = cell_each sh.p (packet_of sh s reads) (read_count reads) out length_packet (le_of_eq (sym packets))
+  pub packet_is : (out : List ℕ) → length out ≡ length reads * shape.p → (n : ℕ) → n < length reads
+      → cell (packets_out shape plans store reads out) (n * shape.p) shape.p ≡ packet_of shape plans store reads n
+  packet_is out packets = cell_each shape.p (packet_of shape plans store reads) (length reads) out length_packet (le_of_eq (sym packets))
 
-  module _ (schedule : List ℕ) (lines : length schedule ≡ read_count reads * 2) where
-    pub opened_once : OpenedOnce reads (lines_out sh reads schedule)
+  module _ (schedule : List ℕ) (lines : length schedule ≡ length reads * 2) where
+    pub opened_once : OpenedOnce reads (lines_out plans reads schedule)
     opened_once i j b l u g at_i at_j =
-        pairs_once sh reads in_range.symbols named few i j b l u g
-        (subst (λ (p : Pair). In b (opened p)) (line_is sh reads schedule lines i (omega arith)) at_i)
-        (subst (λ (p : Pair). In b (opened p)) (line_is sh reads schedule lines j u) at_j)
+        pairs_once shape plans reads in_range.symbols named planned i j b l u g
+        (subst (λ (p : Pair). Contains (opened p) b) (line_is plans reads schedule lines i (omega arith)) at_i)
+        (subst (λ (p : Pair). Contains (opened p) b) (line_is plans reads schedule lines j u) at_j)
 
-    module _ (out : List ℕ) (packets : length out ≡ read_count reads * sh.p) where
-      pub served_read : (n : ℕ) → n < read_count reads → ServedRead sh s reads (packets_out sh s reads out) (lines_out sh reads schedule) n
+    module _ (out : List ℕ) (packets : length out ≡ length reads * shape.p) where
+      pub served_read : (n : ℕ) → n < length reads → ServedRead shape store reads (packets_out shape plans store reads out) (lines_out plans reads schedule) n
       unfolding packet_of
       served_read n l =
-          let same : pair_of sh.k reads n ≡ line (lines_out sh reads schedule) n = sym (line_is sh reads schedule lines n l) in
+          let same : pair_of plans reads n ≡ line (lines_out plans reads schedule) n = sym (line_is plans reads schedule lines n l) in
           record {
-            pair = subst (λ (p : Pair). Serves sh.k (symbol reads n) p) same (serves n l);
-            packet = packet_is out packets n l ∙ ap (λ (p : Pair). xor_of_cells sh s (group reads n) (row reads n) (opened p)) same;
+            pair = subst (λ (p : Pair). Serves (is_bank shape.k) (read_at reads n).symbol p) same (serves n l);
+            packet = packet_is out packets n l ∙ ap (λ (p : Pair). xor_of_cells shape store (read_at reads n).group (read_at reads n).row (opened p)) same;
           }

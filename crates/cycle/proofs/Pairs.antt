@@ -1,94 +1,107 @@
--- The pair of each read: it stands in the plan of its group, serves its symbol, and is handed out once.
-use mathlib.Core.Path.{◌≡◌, refl, ap, ◌∙◌, subst}
-use mathlib.Core.Bool.{Bool, true, false}
-use mathlib.Core.List.{List}
-use Prim.Native.Nat.{ℕ, ◌+◌, ◌<◌}
-use native.Mathlib.Omega.{arith}
-use borrow.Author.Tests.{ltb-true, ltb-false, eqb-true, eqb-false}
-use lib.Dec.{ltb, eqb}
-use lib.ListN.{get_or}
-use Rattle.simplex.specs.Shape.{SymbolsInRange}
-use Rattle.simplex.specs.Limit.{total, In}
-use Rattle.audit.specs.Plan.{Pair, opened, Serves, start, pair_at, IsPlan}
-use Rattle.audit.proofs.Places.{place_less, start_less}
+-- The pair of each read: it stands in the plan of its group, serves its symbol, and shares no bank with another's.
+use Rattle.std.proofs.Common.{ℕ, ◌≡◌, ◌≢◌, ◌≤◌, ◌<◌, Bool, true, false, ltb, List, length, get_or, sum, Contains, refl, ap, ◌∙◌, subst, arith}
+use borrow.Author.Tests.{ltb-true, ltb-false}
+use Rattle.std.proofs.lemmas.List.{get_or_past}
+use Rattle.std.proofs.lemmas.List.Elements.{All-weaker}
+use Rattle.std.proofs.lemmas.List.FromFn.{length-map-range_with_len}
+use Rattle.simplex.specs.declared.TheConstants.{MOST_SYMBOLS}
+use Rattle.simplex.specs.Shape.{SymbolsInRange, is_bank}
+use Rattle.audit.specs.Plan.{Pair, opened, Serves, pair_at, IsPlan}
+use Rattle.audit.specs.Audit.{RequestOf}
 use Rattle.plan.specs.Systematic.{systematic_pair}
-use Rattle.plan.specs.Finding.{plan_of}
 use Rattle.plan.specs.Laws.{WithinLimit}
 use Rattle.plan.proofs.Systematic.{systematic_at}
 use Rattle.plan.proofs.Planning.{systematic_law, is_plan_lem}
 use Rattle.plan.proofs.Answering.{audited}
 use Rattle.layout.specs.declared.Shape.{Shape}
-use Rattle.reads.specs.Reads.{read_count, group, symbol, ordinal, counts_of, CollisionFreeIn}
+use Rattle.reads.specs.Reads.{Reads, no_read, read_at, is_for, count_of, counts_of, CollisionFreeIn}
+use Rattle.reads.specs.Laws.{SymbolsBelow}
+use Rattle.layout.specs.Name.{PacketOf}
 use Rattle.reads.specs.Parts.{Named, Few}
-use Rattle.reads.proofs.Counting.{ordinal_less, request, earlier, at_most_once}
-use Rattle.cycle.specs.Cycle.{pair_of}
+use Rattle.reads.proofs.Counting.{count_at}
+use Rattle.reads.proofs.Once.{for_both, none_counted, at_most_once}
+use Rattle.cycle.specs.Cycle.{Plans, plans_of, slot_of, pair_of}
 use Rattle.cycle.specs.Served.{PlansAudited}
+use Rattle.cycle.proofs.Slots.{nth, slot_within, slots_apart}
 
-module _ (sh : Shape) (reads : List ℕ) (range : SymbolsInRange sh.k) (named : Named sh reads) where
-  -- read n of group x is one of its symbol's
-  nth : (x n : ℕ) → group reads n ≡ x → n < read_count reads → ordinal reads n < get_or (counts_of reads x) (symbol reads n) 0
-  nth x n g l =
-      subst (λ (y : ℕ). ordinal reads n < get_or (counts_of reads y) (symbol reads n) 0) g
-      (ordinal_less reads n l (omega (arith, (named n l).2, range.most)))
+pub symbols_below : (shape : Shape) (reads : Reads) → SymbolsInRange shape.k → Named shape reads → SymbolsBelow reads
+symbols_below shape reads range named =
+    All-weaker (PacketOf shape) (λ read. read.symbol < MOST_SYMBOLS) (λ read there. omega (arith, there.symbol, range.most)) reads named
 
-  -- where the pair of read n stands in a plan of group x
-  abbrev place : (x n : ℕ) → ℕ
-  place x n = start (counts_of reads x) (symbol reads n) + ordinal reads n
+pub pair_systematic : (K : ℕ) (reads : Reads) → SymbolsBelow reads → (n : ℕ) → n < length reads → CollisionFreeIn reads (read_at reads n).group
+    → pair_of (plans_of K reads) reads n ≡ systematic_pair (read_at reads n).symbol
+unfolding pair_of
+pair_systematic K reads small n l free =
+    let counts = counts_of reads (read_at reads n).group in
+    ap (λ (pairs : List Pair). pair_at pairs (slot_of reads n)) (systematic_law K counts (at_most_once reads (read_at reads n).group free))
+    ∙ systematic_at counts (read_at reads n).symbol _ (nth reads small n l)
 
-  place_in : (x n : ℕ) → group reads n ≡ x → n < read_count reads → place x n < total (counts_of reads x)
-  place_in x n g l = place_less (counts_of reads x) (symbol reads n) (ordinal reads n) (nth x n g l)
+-- ---- by any plans of the groups
 
-  pub pair_place : (n : ℕ) → n < read_count reads → place (group reads n) n < total (counts_of reads (group reads n))
-  pair_place n = place_in (group reads n) n refl
+abbrev pub Planned : Shape → Plans → Reads → Type 0
+Planned shape plans reads = (group : ℕ) → group < shape.m → IsPlan (is_bank shape.k) (counts_of reads group) (plans group)
 
-  pub pair_systematic : (n : ℕ) → n < read_count reads → CollisionFreeIn reads (group reads n) → pair_of sh.k reads n ≡ systematic_pair (symbol reads n)
+module _ (shape : Shape) (plans : Plans) (reads : Reads) (range : SymbolsInRange shape.k) (named : Named shape reads) (planned : Planned shape plans reads) where
+  small : SymbolsBelow reads
+  small = symbols_below shape reads range named
+
+  pub pair_serves : (n : ℕ) → n < length reads → Serves (is_bank shape.k) (read_at reads n).symbol (pair_of plans reads n)
   unfolding pair_of
-  pair_systematic n l free =
-      let counts = counts_of reads (group reads n) in
-      ap (λ (pairs : List Pair). pair_at pairs (place (group reads n) n)) (systematic_law sh.k counts (at_most_once reads (group reads n) free))
-      ∙ systematic_at counts (symbol reads n) (ordinal reads n) (nth (group reads n) n refl l)
+  pair_serves n l = (planned (read_at reads n).group (named n no_read l).group).in_order (read_at reads n).symbol _ (nth reads small n l)
 
-  -- of two reads of a group, one for an earlier symbol stands before the other
-  before : (x i j : ℕ) → group reads i ≡ x → i < read_count reads → symbol reads i < symbol reads j → place x i < place x j
-  before x i j g l s = omega (arith, nth x i g l, start_less (counts_of reads x) (symbol reads i) (symbol reads j) s)
+  -- the pairs of two reads of a group open no bank in common: they stand in different slots of its plan
+  pub pairs_once : (i j b : ℕ) → i < j → j < length reads → (read_at reads i).group ≡ (read_at reads j).group
+      → Contains (opened (pair_of plans reads i)) b → Contains (opened (pair_of plans reads j)) b → ⊥
+  unfolding pair_of
+  pairs_once i j b l u g at_i at_j = go (ltb (slot_of reads i) (slot_of reads j)) refl
+    where
+      x : ℕ
+      x = (read_at reads j).group
 
-  module _ (few : Few sh reads) where
-    within : (x : ℕ) → x < sh.m → WithinLimit sh.k (counts_of reads x)
-    within x l = record { request = request sh.k reads x range (λ n b. (named n b).2); total_most = few x l }
+      plan : IsPlan (is_bank shape.k) (counts_of reads x) (plans x)
+      plan = planned x (named j no_read u).group
 
-    pub plans_audited : PlansAudited sh reads
-    plans_audited x l = audited sh.k (counts_of reads x) (within x l)
+      first : Contains (opened (pair_at (plans x) (slot_of reads i))) b
+      first = subst (λ (y : ℕ). Contains (opened (pair_at (plans y) (slot_of reads i))) b) g at_i
 
-    plan_of_group : (x : ℕ) → x < sh.m → IsPlan sh.k (counts_of reads x) (plan_of sh.k (counts_of reads x))
-    plan_of_group x l = is_plan_lem sh.k (counts_of reads x) (within x l)
+      in_plan : slot_of reads i < length (plans x)
+      in_plan =
+          let within : slot_of reads i < sum (counts_of reads x) =
+          subst (λ (y : ℕ). slot_of reads i < sum (counts_of reads y)) g (slot_within reads small i (omega arith)) in
+          omega (arith, plan.one_each, within)
 
-    pub pair_serves : (n : ℕ) → n < read_count reads → Serves sh.k (symbol reads n) (pair_of sh.k reads n)
-    unfolding pair_of
-    pair_serves n l = (plan_of_group (group reads n) (named n l).1).in_order (symbol reads n) (ordinal reads n) (nth (group reads n) n refl l)
+      apart : slot_of reads i ≢ slot_of reads j
+      apart = slots_apart reads small i j l u g
 
-    -- the pairs of two reads of a group open no bank in common
-    pub pairs_once : (i j b : ℕ) → i < j → j < read_count reads → group reads i ≡ group reads j
-        → In b (opened (pair_of sh.k reads i)) → In b (opened (pair_of sh.k reads j)) → ⊥
-    unfolding pair_of
-    pairs_once i j b l u g at_i at_j = by_symbol (ltb (symbol reads i) (symbol reads j)) refl (eqb (symbol reads i) (symbol reads j)) refl
-      where
-        x : ℕ
-        x = group reads j
+      go : (t : Bool) → ltb (slot_of reads i) (slot_of reads j) ≡ t → ⊥
+      go true e = plan.once _ _ b (ltb-true _ _ e) (omega (arith, plan.one_each, slot_within reads small j u)) first at_j
+      go false e =
+          let past : slot_of reads j ≤ slot_of reads i = ltb-false _ _ e in
+          let less : slot_of reads j < slot_of reads i = omega (arith, past, apart) in
+          plan.once _ _ b less in_plan at_j first
 
-        plan : IsPlan sh.k (counts_of reads x) (plan_of sh.k (counts_of reads x))
-        plan = plan_of_group x (named j u).1
+-- ---- the planner's plans
 
-        first : In b (opened (pair_at (plan_of sh.k (counts_of reads x)) (place x i)))
-        first = subst (λ (y : ℕ). In b (opened (pair_at (plan_of sh.k (counts_of reads y)) (place y i)))) g at_i
+-- the counts of a group are a request vector
+pub request : (K : ℕ) (reads : Reads) (group : ℕ) → SymbolsInRange K → ((n : ℕ) → n < length reads → (read_at reads n).symbol < K)
+    → RequestOf K (counts_of reads group)
+request K reads group range small = record { symbols = range; size = size; beyond = λ i l. beyond i l (ltb i MOST_SYMBOLS) refl }
+  where
+    size : length (counts_of reads group) ≡ MOST_SYMBOLS
+    size = length-map-range_with_len (count_of reads group) 0 MOST_SYMBOLS
 
-        rising : place x i < place x j → ⊥
-        rising h = plan.once (place x i) (place x j) b h (omega (arith, place_in x j refl u, plan.one_each)) first at_j
+    beyond : (i : ℕ) → K ≤ i → (t : Bool) → ltb i MOST_SYMBOLS ≡ t → get_or (counts_of reads group) i 0 ≡ 0
+    beyond i l true e =
+        count_at reads group i (ltb-true i MOST_SYMBOLS e)
+        ∙ none_counted (is_for group i) no_read reads (λ n b own. omega (arith, small n b, (for_both group i (read_at reads n) own).1))
+    beyond i l false e = get_or_past (counts_of reads group) i 0 (omega (arith, size, ltb-false i MOST_SYMBOLS e))
 
-        by_symbol : (t : Bool) → ltb (symbol reads i) (symbol reads j) ≡ t → (s : Bool) → eqb (symbol reads i) (symbol reads j) ≡ s → ⊥
-        by_symbol true e s f = rising (before x i j g (omega arith) (ltb-true _ _ e))
-        by_symbol false e true f =
-            let same = eqb-true (symbol reads i) (symbol reads j) f in
-            rising (omega (arith, ap (start (counts_of reads x)) same, earlier reads i j l g same))
-        by_symbol false e false f =
-            let less : symbol reads j < symbol reads i = omega (arith, ltb-false (symbol reads i) (symbol reads j) e, eqb-false (symbol reads i) (symbol reads j) f) in
-            plan.once (place x j) (place x i) b (before x j i refl u less) (omega (arith, place_in x i g (omega arith), plan.one_each)) at_j first
+module _ (shape : Shape) (reads : Reads) (range : SymbolsInRange shape.k) (named : Named shape reads) (few : Few shape reads) where
+  within : (group : ℕ) → group < shape.m → WithinLimit shape.k (counts_of reads group)
+  within group l = record { request = request shape.k reads group range (λ n b. (named n no_read b).symbol); total_most = few group l }
+
+  pub plans_audited : PlansAudited shape reads
+  plans_audited group l = audited shape.k (counts_of reads group) (within group l)
+
+  pub all_planned : Planned shape (plans_of shape.k reads) reads
+  all_planned group l = is_plan_lem shape.k (counts_of reads group) (within group l)

@@ -1,5 +1,5 @@
-// A memory of one group and two rows: four packets written to a row, spread over fifteen banks, and a cycle of eight reads of them, two of each
-// packet, every bank opened once. With a ninth read a cycle is refused.
+// A memory of one group and two rows: four packets written to a row, spread over fifteen banks, and a cycle of eight reads of them, two of
+// each packet, every bank opened once. With a ninth read a cycle is refused.
 #![tactic(auto)]
 
 use layout::{Geometry, Shape, Store};

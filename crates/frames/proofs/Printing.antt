@@ -8,8 +8,7 @@ use lib.Seq.{take_all}
 use Rattle.std.proofs.Common.{append-nil}
 use Rattle.cells.specs.Cell.{put}
 use Rattle.cells.proofs.Cells.{put_none}
-use Rattle.frames.specs.Frames.{printed}
-use Rattle.frames.specs.Printing.{Prints}
+use Rattle.frames.specs.Printing.{printed, Prints}
 use Rattle.lines.specs.Hex.{digits_of}
 use Rattle.lines.proofs.Digits.{length_digits}
 

@@ -1,3 +1,4 @@
 -- The definitions of the crate: frames, and answers as lines.
-pub mod Frames
+pub mod Frame
 pub mod Printing
+pub mod Bounds

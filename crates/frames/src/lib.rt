@@ -2,16 +2,16 @@
 #![tactic(auto)]
 
 ghost use Rattle.std.specs.Prelude.{◌≡◌, ◌∷◌, ◌+◌, ◌*◌, ◌≤◌, ◌<◌, length};
-ghost use Rattle.frames.specs.Frames.{line_refusal, frame_of, first_byte, said};
-ghost use Rattle.frames.specs.Printing.{Fits, Prints};
+ghost use Rattle.frames.specs.Bounds.{TheBounds};
+ghost use Rattle.frames.specs.Frame.{line_refusal, shown, frame_of, first_byte};
+ghost use Rattle.frames.specs.Printing.{said, Fits, Prints};
 
 use layout::Shape;
 use lines::hex;
-use memory::Answer;
-use refusals::{Reason, Refusal, Verdict, check, is_between};
+use refusals::{Answer, Reason, Refusal, Verdict, check, is_between};
 
 // The most characters of a line, and the bytes of the longest frame.
-const MOST_CHARACTERS: usize = 4096;
+pub const MOST_CHARACTERS: usize = 4096;
 
 pub const MOST_FRAME: usize = MOST_CHARACTERS / 2;
 
@@ -20,34 +20,39 @@ pub const MOST_STORE: usize = 16384;
 
 pub const MOST_OUTPUT: usize = 2 * (2 + MOST_STORE) + 1;
 
-// A frame, by its first byte; unknown where that or its length is wrong. The packets of a write and the reads of a cycle are the bytes behind
-// these fields, which the caller holds: a frame borrows nothing. The unknown ones are a kind of their own, since the project's rules name this form.
+// Carries the bounds of lines and stores. It does nothing.
+pub fn the_frames()
+    ensures { TheBounds }
+{}
+
+// A frame, by its first byte, with what it carries; unknown where that byte or the length is wrong. The unknown ones are a kind of their
+// own, since the project's rules name this form.
 #[derive(Clone, Copy, Debug, PartialEq, Eq)]
-pub enum Frame {
+pub enum Frame<'a> {
     SetUp(Shape),
-    Write(usize),
+    Write(usize, &'a [u8]),
     Release(usize),
-    Read,
+    Read(&'a [u8]),
     Unknown,
 }
 
-impl Frame {
+impl Frame<'_> {
     // The first byte of the answer to a frame.
     pub fn first_byte(self) -> u8
-        ensures { result ≡ first_byte self }
+        ensures { result ≡ first_byte (shown self.entry) }
     {
         match self {
             Frame::SetUp(_) => 0x81,
-            Frame::Write(_) => 0x82,
+            Frame::Write(..) => 0x82,
             Frame::Release(_) => 0x83,
-            Frame::Read => 0x84,
+            Frame::Read(_) => 0x84,
             Frame::Unknown => 0xff,
         }
     }
 }
 
 // The refusal of a line: 17.
-#[tactic(auto, unfolding(crate::specs::Frames::line_refusal))]
+#[tactic(auto, unfolding(crate::specs::Frame::line_refusal))]
 pub fn judge_line(line: &[u8]) -> Verdict
     ensures { result ≡ line_refusal line.now }
 {
@@ -58,10 +63,9 @@ pub fn judge_line(line: &[u8]) -> Verdict
 }
 
 // The frame that bytes are.
-#[tactic(auto, unfolding(crate::specs::Frames::frame_of))]
-pub fn frame_of(bytes: &[u8]) -> Frame
-    requires { 1 ≤ length bytes.now }
-    ensures { result ≡ frame_of bytes.now }
+#[tactic(auto, unfolding(crate::specs::Frame::frame_of))]
+pub fn frame_of(bytes: &[u8]) -> Frame<'_>
+    ensures { shown result ≡ frame_of bytes.now }
 {
     match bytes {
         [1, k, m, high, low, g] => Frame::SetUp(Shape {
@@ -70,14 +74,15 @@ pub fn frame_of(bytes: &[u8]) -> Frame
             p: usize::from(u16::from_be_bytes([*high, *low])),
             g: usize::from(*g),
         }),
-        [2, row, ..] => Frame::Write(usize::from(*row)),
+        [2, row, packets @ ..] => Frame::Write(usize::from(*row), packets),
         [3, row] => Frame::Release(usize::from(*row)),
-        [4, ..] => Frame::Read,
+        [4, list @ ..] => Frame::Read(list),
         _ => Frame::Unknown,
     }
 }
 
-// Prints bytes as a line, to the front of the caller's array, since no heap is asked for. Gives its length, here and below: `Prints` speaks of the whole array.
+// Prints bytes as a line, to the front of the caller's array, since no heap is asked for. Gives its length, here and below: `Prints` speaks
+// of the whole array.
 #[tactic(auto, using(crate::proofs::Printing::length_printed, crate::proofs::Printing::put_printed))]
 pub fn print_line(bytes: &[u8], out: &mut [u8]) -> usize
     requires { 2 * length bytes.now + 1 ≤ length out.old }
@@ -89,18 +94,21 @@ pub fn print_line(bytes: &[u8], out: &mut [u8]) -> usize
     end + 1
 }
 
-// Prints an answer. The packets, which are read if it is of a cycle that is served, stand beside it, since memory's `Answer` has no bytes.
+// Prints the answer to a frame. The packets, which are read if it is of a cycle that is served, stand beside it, since an `Answer` has no
+// bytes.
 #[tactic(auto, using(crate::proofs::Printing::high_byte))]
 pub fn print_answer(
-    first: u8,
+    frame: Frame<'_>,
     answer: Result<Answer, Refusal>,
     packets: &[u8],
     out: &mut [u8; MOST_OUTPUT],
 ) -> usize
     requires fits { Fits answer }
     requires room { 2 * (2 + length packets.now) < length out.old }
-    ensures { Prints (first ∷ said packets.now answer) out.old result out.new }
+    ensures { let bytes = first_byte (shown frame.entry) ∷ said packets.now answer in
+        Prints bytes out.old result out.new }
 {
+    let first = frame.first_byte();
     match answer {
         // `as` is proved to lose nothing, and no `From` narrows.
         Ok(Answer::FullRows(rows)) => print_line(&[first, 0, rows as u8], out),

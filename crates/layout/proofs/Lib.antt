@@ -1,3 +1,4 @@
 -- The laws that the proofs of this crate, and of those above it, cite.
 pub mod Ranges
 pub mod Places
+pub mod FullRows

@@ -5,7 +5,7 @@ use native.Mathlib.Omega.{arith}
 use lib.Arith.{digits_lt}
 use Rattle.cells.specs.Cell.{Apart}
 use Rattle.cells.proofs.Steps.{step_within, digits_same, multiples_apart}
-use Rattle.simplex.specs.Filling.{spaced, Room}
+use Rattle.simplex.specs.Banks.{spaced, Room}
 use Rattle.layout.specs.declared.Shape.{Shape}
 use Rattle.layout.specs.Shape.{banks, store_size, CellOf, offset}
 

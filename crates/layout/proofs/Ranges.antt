@@ -7,17 +7,19 @@ use native.Mathlib.Omega.{arith}
 use lib.Pow.{pow_mono}
 use Rattle.refusals.specs.Verdict.{Accepted, between}
 use Rattle.refusals.proofs.Verdicts.{checks, between_words, words_between}
-use Rattle.simplex.specs.Shape.{least_symbols, most_symbols, banks_of}
+use Rattle.simplex.specs.declared.TheConstants.{LEAST_SYMBOLS, MOST_SYMBOLS}
+use Rattle.simplex.specs.Shape.{banks_of}
 use Rattle.layout.specs.declared.Shape.{Shape}
-use Rattle.layout.specs.Shape.{most_groups, most_packet_bytes, most_rows, shape_refusal, InRange, banks}
+use Rattle.layout.specs.declared.TheConstants.{MOST_GROUPS, MOST_PACKET_BYTES, MOST_ROWS}
+use Rattle.layout.specs.Shape.{shape_refusal, InRange, banks}
 
 pub range_words : (sh : Shape) → shape_refusal sh ≡ Accepted → InRange sh
 unfolding shape_refusal
 range_words sh e =
-    let k : between least_symbols most_symbols sh.k ≡ true = search checks in
-    let m : between 1 most_groups sh.m ≡ true = search checks in
-    let p : between 1 most_packet_bytes sh.p ≡ true = search checks in
-    let g : between 1 most_rows sh.g ≡ true = search checks in
+    let k : between LEAST_SYMBOLS MOST_SYMBOLS sh.k ≡ true = search checks in
+    let m : between 1 MOST_GROUPS sh.m ≡ true = search checks in
+    let p : between 1 MOST_PACKET_BYTES sh.p ≡ true = search checks in
+    let g : between 1 MOST_ROWS sh.g ≡ true = search checks in
     let symbols = between_words _ _ _ k in
     record {
       symbols = record { least = symbols.0; most = symbols.1 };
@@ -29,16 +31,16 @@ range_words sh e =
 pub words_range : (sh : Shape) → InRange sh → shape_refusal sh ≡ Accepted
 unfolding shape_refusal
 words_range sh w = rw (
-  words_between least_symbols most_symbols sh.k (w.symbols.least, w.symbols.most),
-  words_between 1 most_groups sh.m w.groups,
-  words_between 1 most_packet_bytes sh.p w.bytes,
-  words_between 1 most_rows sh.g w.rows,
+  words_between LEAST_SYMBOLS MOST_SYMBOLS sh.k (w.symbols.least, w.symbols.most),
+  words_between 1 MOST_GROUPS sh.m w.groups,
+  words_between 1 MOST_PACKET_BYTES sh.p w.bytes,
+  words_between 1 MOST_ROWS sh.g w.rows,
 )
 
 -- ---- sizes: no product of the numbers of a shape in range is large
 
-pub few_banks : (sh : Shape) → InRange sh → banks sh ≤ banks_of most_symbols
-few_banks sh w = let l : 2 ^ sh.k ≤ 2 ^ most_symbols = pow_mono w.symbols.most in omega arith
+pub few_banks : (sh : Shape) → InRange sh → banks sh ≤ banks_of MOST_SYMBOLS
+few_banks sh w = let l : 2 ^ sh.k ≤ 2 ^ MOST_SYMBOLS = pow_mono w.symbols.most in omega arith
 
-pub all_banks_lem : (sh : Shape) (x : ℕ) → InRange sh → x ≤ most_groups → x * banks sh ≤ most_groups * banks_of most_symbols
+pub all_banks_lem : (sh : Shape) (x : ℕ) → InRange sh → x ≤ MOST_GROUPS → x * banks sh ≤ MOST_GROUPS * banks_of MOST_SYMBOLS
 all_banks_lem sh x w l = mul-le-mul l (few_banks sh w)

@@ -5,6 +5,6 @@ use Rattle.refusals.specs.Verdict.{Verdict, verdict_of}
 use Rattle.layout.specs.declared.Shape.{Shape}
 use Rattle.layout.specs.declared.Geometry.{Geometry}
 
-pub record Judged (sh : Shape) (v : Verdict) (r : Result Geometry Refusal) : Type 0 where
-  pub verdict : verdict_of r ≡ v
-  pub shape : IfOk r (λ geometry. geometry.shape ≡ sh)
+pub record Judged (given : Shape) (by : Verdict) (answer : Result Geometry Refusal) : Type 0 where
+  pub verdict : verdict_of answer ≡ by
+  pub shape : IfOk answer (λ geometry. geometry.shape ≡ given)

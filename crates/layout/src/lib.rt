@@ -1,17 +1,21 @@
-// The shape of a memory: its ranges, its sizes, and where each cell lies.
+// The shape of a memory: its ranges, its sizes, where each cell lies, and which of its rows are full.
 #![tactic(auto)]
 
-ghost use Rattle.std.specs.Prelude.{◌≡◌, length, get_or};
+ghost use Rattle.std.specs.Prelude.{◌≡◌, length};
 ghost use Rattle.layout.specs.Shape.{shape_refusal, InRange, store_size, generation_size, CellOf, offset, cell_at};
-ghost use Rattle.layout.specs.Laws.{TheLayout};
+ghost use Rattle.layout.specs.Occupancy.{TheOccupancy};
+ghost use Rattle.layout.specs.Laws.{TheBounds, TheLayout};
 
+pub use occupancy::Rows;
 use refusals::{Reason, Refusal, Verdict, check, is_between};
-use simplex::{LEAST_SYMBOLS, MOST_SYMBOLS};
+use simplex::{Group, LEAST_SYMBOLS, MOST_SYMBOLS};
+
+mod occupancy;
 
 // The most groups of a memory, bytes of a packet, and rows.
 pub const MOST_GROUPS: usize = 8;
 
-const MOST_PACKET_BYTES: usize = 2048;
+pub const MOST_PACKET_BYTES: usize = 2048;
 
 pub const MOST_ROWS: usize = 64;
 
@@ -34,7 +38,9 @@ pub struct PacketName {
 
 // By the three bytes of a read.
 impl From<[u8; 3]> for PacketName {
-    ghost from_gives = { λ bytes name. name ≡ record { row = get_or bytes 0 0; group = get_or bytes 1 0; symbol = get_or bytes 2 0 } };
+    ghost use Rattle.layout.specs.Name.{name_of};
+
+    ghost from_gives = { λ bytes name. name ≡ name_of bytes };
 
     fn from([row, group, symbol]: [u8; 3]) -> PacketName {
         PacketName {
@@ -45,9 +51,11 @@ impl From<[u8; 3]> for PacketName {
     }
 }
 
-// Carries the laws of a shape. It does nothing.
+// Carries the laws of a shape, and of which rows are full. It does nothing.
 pub fn the_layout()
-    ensures { TheLayout }
+    ensures bounds { TheBounds }
+    ensures layout { TheLayout }
+    ensures occupancy { TheOccupancy }
 {}
 
 // Set-up's refusal of a shape: 1 to 4.
@@ -101,8 +109,8 @@ impl Geometry {
         ensures { result ≡ store_size self.shape }
     {
         let shape = self.shape;
-        let group = simplex::group_of(shape.k);
-        shape.m * group.banks * shape.g * shape.p
+        let Group { banks, .. } = simplex::group_of(shape.k);
+        shape.m * banks * shape.g * shape.p
     }
 
     // The length of a generation.
@@ -114,15 +122,15 @@ impl Geometry {
         shape.m * shape.k * shape.p
     }
 
-    // Where bank b of group x keeps row r.
+    // Where a bank of a group keeps a row.
     #[tactic(auto, using(simplex::proofs::Tables::banks_of_lem), unfolding(crate::specs::Shape::offset))]
-    pub fn offset_of(self, x: usize, b: usize, r: usize) -> usize
-        requires { CellOf self.shape x b r }
-        ensures { result ≡ offset self.shape x b r }
+    pub fn offset_of(self, group: usize, bank: usize, row: usize) -> usize
+        requires { CellOf self.shape group bank row }
+        ensures { result ≡ offset self.shape group bank row }
     {
         let shape = self.shape;
-        let group = simplex::group_of(shape.k);
-        ((x * group.banks + b - 1) * shape.g + r) * shape.p
+        let Group { banks, .. } = simplex::group_of(shape.k);
+        ((group * banks + bank - 1) * shape.g + row) * shape.p
     }
 }
 
@@ -135,13 +143,14 @@ pub struct Store<'a> {
 }
 
 impl<'a> Store<'a> {
-    // What bank b of group x keeps for row r.
+    // What a bank of a group keeps for a row.
     #[tactic(auto, using(crate::proofs::Places::inside))]
-    pub fn cell_at(self, x: usize, b: usize, r: usize) -> &'a [u8]
-        requires { CellOf self.geometry.shape x b r }
-        ensures { result.now ≡ cell_at self.entry.geometry.shape self.entry.bytes.now x b r }
+    pub fn cell_at(self, group: usize, bank: usize, row: usize) -> &'a [u8]
+        requires { CellOf self.geometry.shape group bank row }
+        ensures { let shape = self.entry.geometry.shape in
+            result.now ≡ cell_at shape self.entry.bytes.now group bank row }
     {
-        let at = self.geometry.offset_of(x, b, r);
+        let at = self.geometry.offset_of(group, bank, row);
         &self.bytes[at..at + self.geometry.shape.p]
     }
 }

@@ -5,13 +5,13 @@ use mathlib.Core.List.{List, [], ◌∷◌}
 use Prim.Native.Nat.{ℕ, zero, suc, ◌+◌, ◌*◌, ◌/◌, ◌%◌, ◌≤◌, ◌<◌}
 use native.Mathlib.Nat.{zero-add, div-add-mod'}
 use native.Mathlib.Omega.{arith}
+use Rattle.std.specs.List.{list_all}
 use Rattle.std.specs.Simd.{first_chunks}
 use lib.ListN.{length, get_or, take, set}
 use Rattle.std.proofs.lemmas.Bool.Decides.{nat_tests}
 use lib.Pow.{are_bytes}
 use Rattle.cells.specs.Cell.{put}
 use Rattle.cells.proofs.Turns.{put_more}
-use Rattle.lines.specs.Lines.{each}
 use Rattle.lines.specs.Hex.{is_digit, value_of, digit_of, bytes_of, digits_of}
 use Rattle.lines.specs.Laws.{TheDigits}
 
@@ -36,8 +36,8 @@ unfolding digits_of
 length_digits [] = refl
 length_digits (b ∷ bytes) = rw (length_digits bytes) (omega arith)
 
-first_two : (high low : ℕ) (digits : List ℕ) → each is_digit (high ∷ low ∷ digits) ≡ true
-    → (is_digit high ≡ true) × (is_digit low ≡ true) × (each is_digit digits ≡ true)
+first_two : (high low : ℕ) (digits : List ℕ) → list_all is_digit (high ∷ low ∷ digits) ≡ true
+    → (is_digit high ≡ true) × (is_digit low ≡ true) × (list_all is_digit digits ≡ true)
 first_two high low digits e = grind arith
 
 -- the digits of the byte that two digits stand for
@@ -45,7 +45,7 @@ two_digits : (high low : ℕ) → is_digit high ≡ true → is_digit low ≡ tr
     (digit_of (b / 16) ≡ high) × (digit_of (b % 16) ≡ low)
 two_digits high low h l = grind (arith, of_digit high h, of_digit low l)
 
-written : (digits : List ℕ) → each is_digit digits ≡ true → length digits % 2 ≡ 0 → digits_of (bytes_of digits) ≡ digits
+written : (digits : List ℕ) → list_all is_digit digits ≡ true → length digits % 2 ≡ 0 → digits_of (bytes_of digits) ≡ digits
 unfolding bytes_of digits_of
 written [] e h = refl
 written (high ∷ []) e h = absurd (omega arith)
@@ -53,7 +53,7 @@ written (high ∷ low ∷ digits) e h =
     let f = first_two high low digits e in
     grind (arith, f, two_digits high low f.0 f.1, written digits f.2)
 
-back : (bytes : List ℕ) → are_bytes bytes ≡ true → (each is_digit (digits_of bytes) ≡ true) × (bytes_of (digits_of bytes) ≡ bytes)
+back : (bytes : List ℕ) → are_bytes bytes ≡ true → (list_all is_digit (digits_of bytes) ≡ true) × (bytes_of (digits_of bytes) ≡ bytes)
 unfolding bytes_of digits_of
 back [] e = (refl, refl)
 back (b ∷ bytes) e = grind (arith, nat_tests, of_value (b / 16), of_value (b % 16), back bytes, div-add-mod' b 16)
@@ -64,7 +64,7 @@ the_digits = record { digits = λ bytes e. (back bytes e).0; twice = length_digi
 -- ---- at an index
 
 -- pair i of digits: both are digits, and byte i is theirs
-pub pair_digits : (digits : List ℕ) (n i : ℕ) → i < n → 2 * n ≤ length digits → each is_digit digits ≡ true
+pub pair_digits : (digits : List ℕ) (n i : ℕ) → i < n → 2 * n ≤ length digits → list_all is_digit digits ≡ true
     → let pair = get_or (first_chunks 2 n digits) i [] in (is_digit (get_or pair 0 0) ≡ true) × (is_digit (get_or pair 1 0) ≡ true)
 pair_digits digits zero i l h e = absurd (omega arith)
 pair_digits [] (suc n) i l h e = absurd (omega arith)
@@ -72,7 +72,7 @@ pair_digits (high ∷ []) (suc n) i l h e = absurd (omega arith)
 pair_digits (high ∷ low ∷ digits) (suc n) zero l h e = let t = first_two high low digits e in (t.0, t.1)
 pair_digits (high ∷ low ∷ digits) (suc n) (suc i) l h e = pair_digits digits n i (omega arith) (omega arith) (first_two high low digits e).2
 
-pub low_digit : (digits : List ℕ) (n i : ℕ) → i < n → 2 * n ≤ length digits → each is_digit digits ≡ true
+pub low_digit : (digits : List ℕ) (n i : ℕ) → i < n → 2 * n ≤ length digits → list_all is_digit digits ≡ true
     → is_digit (get_or (get_or (first_chunks 2 n digits) i []) 1 0) ≡ true
 low_digit digits n i l h e = (pair_digits digits n i l h e).1
 

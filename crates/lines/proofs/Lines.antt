@@ -1,7 +1,7 @@
 -- Laws of a text's lines, and of where a reader finds them.
 use mathlib.Core.Path.{◌≡◌, refl, ap}
 use mathlib.Core.Bool.{Bool, true, false, cond, not}
-use Rattle.std.specs.List.{prefix_len}
+use Rattle.std.specs.List.{prefix_len, list_all}
 use mathlib.Core.List.{List, [], ◌∷◌}
 use Prim.Native.Nat.{ℕ, suc, ◌+◌, ◌-◌, ◌≤◌, ◌<◌}
 use native.Mathlib.Nat.{not-suc-le-zero}
@@ -16,7 +16,7 @@ use Rattle.std.specs.Prelude.{Some, None}
 use Rattle.lines.specs.declared.reader.Line.{Line}
 use lib.ListN.{length, take, drop, length-drop, drop_of_length-le}
 use lib.Seq.{drop-drop}
-use Rattle.lines.specs.Lines.{line_feed, in_front, lines_of, first_line, line_end, line_at, line_found, each, no_line_feed, joined, closed}
+use Rattle.lines.specs.Lines.{line_feed, in_front, lines_of, first_line, line_end, line_at, line_found, no_line_feed, joined, closed}
 use Rattle.lines.specs.Laws.{TheLines}
 
 -- ---- the first line of a text
@@ -109,11 +109,11 @@ whole [] = refl
 whole (c ∷ []) = grind (arith, nat_tests)
 whole (c ∷ d ∷ text) = grind (arith, nat_tests, first_cons d text, whole (d ∷ text))
 
-front_unbroken : (c : ℕ) → eqb c line_feed ≡ false → (lines : List (List ℕ)) → each no_line_feed lines ≡ true → each no_line_feed (in_front c lines) ≡ true
+front_unbroken : (c : ℕ) → eqb c line_feed ≡ false → (lines : List (List ℕ)) → list_all no_line_feed lines ≡ true → list_all no_line_feed (in_front c lines) ≡ true
 front_unbroken c e [] u = grind arith
 front_unbroken c e (line ∷ lines) u = grind arith
 
-all_unbroken : (text : List ℕ) → each no_line_feed (lines_of text) ≡ true
+all_unbroken : (text : List ℕ) → list_all no_line_feed (lines_of text) ≡ true
 unfolding lines_of
 all_unbroken [] = refl
 all_unbroken (c ∷ text) = grind (arith, nat_tests, front_unbroken, all_unbroken text)

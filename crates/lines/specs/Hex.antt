@@ -1,5 +1,5 @@
 -- Hexadecimal: two characters a byte, 0-9 and a-f, the high digit first.
-use Rattle.std.specs.Prelude.{Bool, cond, ◌||◌, List, [], ◌∷◌, ℕ, ◌+◌, ◌-◌, ◌*◌, ◌/◌, ◌%◌, leb, ltb}
+use Rattle.std.specs.Prelude.{Bool, ◌||◌, if◌then◌else◌, List, [], ◌∷◌, ℕ, ◌+◌, ◌-◌, ◌*◌, ◌/◌, ◌%◌, nat_le, nat_lt}
 use Rattle.refusals.specs.Verdict.{between}
 
 -- The characters 0, 9, a and f.
@@ -21,10 +21,10 @@ is_digit c = between char0 char9 c || between small_a small_f c
 
 -- The value of a digit, and the digit of a value from 0 to 15.
 abbrev pub value_of : ℕ → ℕ
-value_of c = cond (leb c char9) (c - char0) (c - small_a + 10)
+value_of c = if nat_le c char9 then c - char0 else c - small_a + 10
 
 abbrev pub digit_of : ℕ → ℕ
-digit_of v = cond (ltb v 10) (char0 + v) (small_a + (v - 10))
+digit_of v = if nat_lt v 10 then char0 + v else small_a + (v - 10)
 
 -- The bytes that digits stand for, two digits each.
 unfoldable pub bytes_of : List ℕ → List ℕ

@@ -1,4 +1,5 @@
--- The definitions of the crate: the lines of a text, hexadecimal, and their laws.
+-- The definitions of the crate: the lines of a text, hexadecimal, their laws, and the reading of a text.
 pub mod Lines
 pub mod Hex
 pub mod Laws
+pub mod Input

@@ -1,7 +1,7 @@
 // Hexadecimal both ways: two characters a byte, 0-9 and a-f, the high digit first.
 ghost use Rattle.std.specs.Prelude.{◌≡◌, true, ◌*◌, ◌<◌, ◌≤◌, length};
+ghost use Rattle.std.specs.List.{list_all};
 ghost use Rattle.cells.specs.Cell.{put};
-ghost use Rattle.lines.specs.Lines.{each};
 ghost use Rattle.lines.specs.Hex.{is_digit, value_of, digit_of, bytes_of, digits_of};
 
 use std::fmt;
@@ -53,7 +53,7 @@ fn digit_of(v: u8) -> u8
 
 // Whether a text has digits alone.
 pub fn all_digits(text: &[u8]) -> bool
-    ensures { result ≡ each is_digit text.now }
+    ensures { result ≡ list_all is_digit text.now }
 {
     text.iter().all(|c| is_digit(*c))
 }
@@ -61,7 +61,7 @@ pub fn all_digits(text: &[u8]) -> bool
 // The bytes that digits stand for, over the front of `bytes`.
 #[tactic(auto, using(cells::proofs::Cells::put_none, crate::proofs::Digits::pair_digits, crate::proofs::Digits::low_digit))]
 pub fn decode(digits: &[u8], bytes: &mut [u8])
-    requires { (each is_digit digits.now ≡ true) × (length digits.now ≤ 2 * length bytes.old) }
+    requires { (list_all is_digit digits.now ≡ true) × (length digits.now ≤ 2 * length bytes.old) }
     ensures { bytes.new ≡ put bytes.old 0 (bytes_of digits.now) }
 {
     // By index: a proof knows nothing of what a `zip` over `bytes.iter_mut()` has written.

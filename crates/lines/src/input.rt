@@ -1,7 +1,7 @@
 // Reads a text into a buffer, from standard input or another reader.
-ghost use Rattle.std.specs.Prelude.{◌≡◌, ◌≢◌, ◌≤◌, length, min, drop, IfOk, IfErr, IfSome};
+ghost use Rattle.std.specs.Prelude.{◌≡◌, ◌≢◌, ◌≤◌, length, drop, IfOk, IfErr, IfSome};
 ghost use Rattle.std.specs.IoError.{error_kind};
-ghost use Rattle.cells.specs.Cell.{put};
+ghost use Rattle.lines.specs.Input.{Fills};
 
 use std::io::{self, ErrorKind, Read};
 
@@ -10,7 +10,7 @@ use std::io::{self, ErrorKind, Read};
 pub fn read_text<R: Read + Drop>(reader: R, text: &mut [u8]) -> io::Result<usize>
     ensures room { IfOk result (λ n. n ≤ length text.old) }
     ensures rest { IfOk result (λ n. drop n text.new ≡ drop n text.old) }
-    ensures all { IfOk result (λ n. IfSome (R.remaining reader) (λ bytes. (n ≡ min (length text.old) (length bytes)) × (text.new ≡ put text.old 0 bytes))) }
+    ensures all { IfOk result (λ n. IfSome (R.remaining reader) (Fills text.old n text.new)) }
     ensures retried { IfErr result (λ e. error_kind e ≢ ErrorKind.Interrupted) }
 {
     // `as`, since u64 and usize are not `From` each other.

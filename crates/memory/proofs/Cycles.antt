@@ -1,148 +1,176 @@
--- Demand 3 holds of every read cycle; and what a served read returns where its row's cells are those of the code.
+-- The cycle law holds of every read cycle; and what a served read returns where its row's cells are those of the code.
 use mathlib.Core.Path.{◌≡◌, refl, sym, ap, ◌∙◌}
+use mathlib.Core.Bool.{true}
 use mathlib.Core.List.{List, []}
 use Prim.Native.Nat.{ℕ, zero, suc, ◌%◌, ◌≤◌, ◌<◌}
 use native.Mathlib.Omega.{arith}
 use Rattle.std.proofs.lemmas.Bool.{and_parts}
-use borrow.Author.Tests.{eqb-true}
+use borrow.Author.Tests.{eqb-true, eq-eqb}
 use lib.Dec.{eqb}
 use lib.ListN.{length, get_or}
-use Rattle.refusals.specs.declared.Reason.TheVariants as reason
+use Rattle.std.specs.List.{sum}
 use Rattle.std.specs.Prelude.{Ok, Err}
 use Rattle.refusals.specs.declared.Refusal.{Refusal}
+use Rattle.refusals.specs.declared.Reason.TheVariants as reason
+use Rattle.refusals.specs.declared.Answer.TheVariants.{Served}
 use Rattle.refusals.specs.Verdict.{Verdict, Accepted, refused, answer_by}
 use Rattle.refusals.proofs.Verdicts.{answered, check_passed, never_check, never_then, skips}
-use Rattle.simplex.specs.Shape.{limit_of}
-use Rattle.simplex.specs.Limit.{total}
+use Rattle.simplex.specs.Shape.{limit_of, is_bank}
 use Rattle.simplex.specs.Code.{Packet, Sized, bank_cell, xor_of_banks}
 use Rattle.simplex.proofs.Banks.{set_linear, cell_one}
 use Rattle.simplex.proofs.Limit.{limit_of_reads}
 use Rattle.audit.specs.Plan.{Pair, opens, opened, Serves}
+use Rattle.audit.proofs.Reading.{first_to, second_to}
 use Rattle.audit.proofs.Served.{opens_xor, opened_yields}
 use Rattle.layout.specs.declared.Shape.{Shape}
 use Rattle.layout.specs.Shape.{banks, store_size, cell_at}
-use Rattle.reads.specs.Reads.{symbol, counts_of, reads_in}
+use Rattle.layout.specs.Occupancy.{is_full}
+use Rattle.reads.specs.Reads.{Reads, reads_in, read_at, counts_of, symbols_read}
 use Rattle.reads.specs.Parts.{Named}
 use Rattle.reads.proofs.Counting.{reads_many}
-use Rattle.reads.proofs.Accepted.{form_named}
+use Rattle.reads.proofs.Accepted.{Accepts, accepts, accepted, all_named}
 use Rattle.reads.proofs.Refused.{over}
 use Rattle.cycle.specs.Cycle.{xor_of_cells}
 use Rattle.cycle.specs.Served.{PlansAudited, SystematicLines, OpenedOnce}
 use Rattle.cycle.proofs.Pairs.{plans_audited}
 use Rattle.cycle.proofs.Lines.{systematic_lines, served_read, opened_once}
 use Rattle.memory.specs.declared.State.{State}
-use Rattle.memory.specs.declared.Answer.TheVariants.{Served}
-use Rattle.memory.specs.State.{is_full, sound, Sound}
+use Rattle.memory.specs.State.{sound, Sound}
 use Rattle.memory.specs.Operations.{store_refusal, cycle_refusal, cycle_output, cycle_schedule}
-use Rattle.memory.specs.Demand3.{RightForm, NamedRowsFull, NoneTooMany, ServedCycle, TooMany, Demand3}
-use Rattle.memory.proofs.States.{sound_words}
-use Rattle.memory.proofs.Accepted.{Readable, store_facts, read_facts, facts_read}
+use Rattle.memory.specs.CycleLaw.{RightForm, NamedRowsFull, NoneTooMany, ServedCycle, TooMany, CycleLaw}
+use Rattle.memory.proofs.States.{tests, sound_words, store_facts}
+
+-- ---- what the acceptance of a cycle tells
+
+pub record Readable (state : State) (size : ℕ) (list : List ℕ) (out schedule : ℕ) : Type 0 where
+  pub sound_state : sound state ≡ true
+  pub store : size ≡ store_size state.shape
+  pub whole : length list % 3 ≡ 0
+  pub reads : Accepts state.shape (is_full state.rows) (reads_in list) out schedule
+
+pub read_facts : (state : State) (size : ℕ) (list : List ℕ) (out schedule : ℕ) → cycle_refusal state size list out schedule ≡ Accepted
+    → Readable state size list out schedule
+unfolding cycle_refusal
+read_facts state size list out schedule e =
+    let l : (length list % 3 ≡ 0) × Accepts state.shape (is_full state.rows) (reads_in list) out schedule = search (tests, accepts) in
+    record { sound_state = search tests; store = search tests; whole = l.0; reads = l.1 }
+
+pub facts_read : (state : State) (size : ℕ) (list : List ℕ) (out schedule : ℕ) → Readable state size list out schedule
+    → cycle_refusal state size list out schedule ≡ Accepted
+unfolding cycle_refusal
+facts_read state size list out schedule f =
+    rw (f.sound_state, eq-eqb _ _ f.store, accepted state.shape (is_full state.rows) list out schedule f.whole f.reads)
 
 -- ---- what an answer tells of the verdict
 
 answered_no : (v : Verdict) (refusal : Refusal) → answer_by Served v ≡ Err refusal → v ≡ Err refusal
 answered_no v refusal e = grind (arith, e)
 
-module _ (st : State) (s reads out schedule : List ℕ) where
-  abbrev sh : Shape
-  sh = st.shape
+module _ (state : State) (store list out schedule : List ℕ) where
+  abbrev shape : Shape
+  shape = state.shape
+
+  abbrev reads : Reads
+  reads = reads_in list
 
   abbrev refusal : Verdict
-  refusal = cycle_refusal st (length s) reads (length out) (length schedule)
+  refusal = cycle_refusal state (length store) list (length out) (length schedule)
 
-  -- ---- demand 3
+  -- ---- the cycle law
 
   -- a group's reads are as many as its counts total
-  many : Sound st → Named sh reads → (x : ℕ) → length (reads_in reads x) ≡ total (counts_of reads x)
-  many ok named x = reads_many reads x (λ n l. omega (arith, (named n l).2, ok.ranges.symbols.most))
+  many : Sound state → Named shape reads → (group : ℕ) → length (symbols_read reads group) ≡ sum (counts_of reads group)
+  many ok named group = reads_many reads group (λ n d l. let there = named n d l in omega (arith, there.symbol, ok.ranges.symbols.most))
 
-  module _ (f : Readable st (length s) reads (length out) (length schedule)) where
-    ok : Sound st
-    ok = sound_words st f.state
+  module _ (f : Readable state (length store) list (length out) (length schedule)) where
+    ok : Sound state
+    ok = sound_words state f.sound_state
 
-    accepted : refusal ≡ Accepted
-    accepted = facts_read st (length s) reads (length out) (length schedule) f
+    passed : refusal ≡ Accepted
+    passed = facts_read state (length store) list (length out) (length schedule) f
 
-    none_too_many : NoneTooMany sh reads
-    none_too_many x l = rw (many ok f.list.named x) (f.list.few x l)
+    none_too_many : NoneTooMany shape reads
+    none_too_many group l = rw (many ok f.reads.named group) (f.reads.few group l)
 
-    pub serves_all_lem : ServedCycle st s reads (answer_by Served refusal) (cycle_output st s reads out schedule) (cycle_schedule st s reads out schedule)
-    serves_all_lem = rw accepted (record {
+    pub serves_all_lem : ServedCycle state store reads (answer_by Served refusal) (cycle_output state store list out schedule) (cycle_schedule state store list out schedule)
+    serves_all_lem = rw passed (record {
       answered = refl;
-      each = served_read sh ok.ranges s reads f.store f.list.named f.list.few schedule f.list.schedule_size out f.list.out_size;
+      each = served_read shape ok.ranges store reads f.store f.reads.named f.reads.few schedule f.reads.schedule_size out f.reads.out_size;
     })
 
-    opens_once : OpenedOnce reads (cycle_schedule st s reads out schedule)
-    opens_once = rw accepted (opened_once sh ok.ranges s reads f.store f.list.named f.list.few schedule f.list.schedule_size)
+    opens_once : OpenedOnce reads (cycle_schedule state store list out schedule)
+    opens_once = rw passed (opened_once shape ok.ranges store reads f.store f.reads.named f.reads.few schedule f.reads.schedule_size)
 
-  pub facts : answer_by Served refusal ≡ Ok Served → Readable st (length s) reads (length out) (length schedule)
-  facts e = read_facts st (length s) reads (length out) (length schedule) ((answered Served refusal Served (sym e)).1)
+  pub facts : answer_by Served refusal ≡ Ok Served → Readable state (length store) list (length out) (length schedule)
+  facts e = read_facts state (length store) list (length out) (length schedule) ((answered Served refusal Served (sym e)).1)
 
   -- the right form, full rows and no group with too many reads are all that is asked
-  readable : RightForm st (length s) reads (length out) (length schedule) → NamedRowsFull st reads → NoneTooMany sh reads
-      → Readable st (length s) reads (length out) (length schedule)
+  readable : RightForm state (length store) list (length out) (length schedule) → NamedRowsFull state reads → NoneTooMany shape reads
+      → Readable state (length store) list (length out) (length schedule)
   readable form full few =
-      let store = store_facts st (length s) form.store in
-      let named : Named sh reads = λ n l. form_named sh reads n (form.named n l) in
+      let lent = store_facts state (length store) form.store in
+      let named = all_named shape reads form.named in
       let fit = and_parts _ _ (check_passed reason.BufferLengths 0 _ form.buffers) in
       record {
-        state = store.0;
-        store = store.1;
-        list = record {
-          whole = eqb-true _ _ (check_passed reason.ListLength 0 (eqb (length reads % 3) 0) form.list);
+        sound_state = lent.0;
+        store = lent.1;
+        whole = eqb-true _ _ (check_passed reason.ListLength 0 (eqb (length list % 3) 0) form.whole);
+        reads = record {
           named = named;
           rows_full = full;
-          few = λ x l. rw (many (sound_words st store.0) named x) at (few x l);
+          few = λ group l. rw (many (sound_words state lent.0) named group) at (few group l);
           out_size = eqb-true _ _ fit.0;
           schedule_size = eqb-true _ _ fit.1;
         };
       }
 
-  too_many : (x : ℕ) → refusal ≡ refused reason.TooManyReads x → TooMany sh reads x
+  too_many : (group : ℕ) → refusal ≡ refused reason.TooManyReads group → TooMany shape reads group
   unfolding cycle_refusal
-  too_many x e =
-      let five = never_check reason.TooManyReads reason.BrokenState 0 (sound st) (λ z. cc) in
-      let six = never_check reason.TooManyReads reason.StoreLength 0 (eqb (length s) (store_size sh)) (λ z. cc) in
-      let list = skips reason.TooManyReads (store_refusal st (length s)) _ x (never_then reason.TooManyReads _ _ five six) e in
-      let ok = sound_words st (store_facts st (length s) list.0).0 in
-      let o = over sh (is_full st) reads (length out) (length schedule) x list.1 in
-      let more : limit_of sh.k < length (reads_in reads x) = rw (many ok o.named x) o.many in
+  too_many group e =
+      let five = never_check reason.TooManyReads reason.BrokenState 0 (sound state) (λ z. cc) in
+      let six = never_check reason.TooManyReads reason.StoreLength 0 (eqb (length store) (store_size shape)) (λ z. cc) in
+      let past = skips reason.TooManyReads (store_refusal state (length store)) _ group (never_then reason.TooManyReads _ _ five six) e in
+      let ok = sound_words state (store_facts state (length store) past.0).0 in
+      let o = over shape (is_full state.rows) list (length out) (length schedule) group past.1 in
+      let more : limit_of shape.k < length (symbols_read reads group) = rw (many ok o.named group) o.many in
       record {
         below = o.below;
         many = more;
-        lowest = λ y l. rw (many ok o.named y) (o.lowest y l);
-        fails = λ sets. limit_of_reads sh.k sh.p (reads_in reads x) ok.ranges.bytes.0 sets more;
+        lowest = λ lower l. rw (many ok o.named lower) (o.lowest lower l);
+        fails = λ sets. limit_of_reads shape.k shape.p (symbols_read reads group) ok.ranges.bytes.0 sets more;
       }
 
-  pub demand3 : Demand3 st s reads (length out) (length schedule) (answer_by Served refusal) (cycle_output st s reads out schedule) (cycle_schedule st s reads out schedule)
-  demand3 = record {
+  pub cycle_law : CycleLaw state store list (length out) (length schedule) (answer_by Served refusal) (cycle_output state store list out schedule) (cycle_schedule state store list out schedule)
+  cycle_law = record {
     exactly = λ form full. (λ served. none_too_many (facts served.answered), λ few. serves_all_lem (readable form full few));
     served = λ e. serves_all_lem (facts e);
-    yields = λ e n l. opened_yields sh.k sh.p (symbol reads n) _ ((serves_all_lem (facts e)).each n l).pair;
+    yields = λ e n l. opened_yields shape.k {usable = is_bank shape.k} (λ b h. h) shape.p (read_at reads n).symbol _ ((serves_all_lem (facts e)).each n l).pair;
     once = λ e. opens_once (facts e);
-    limit = λ some x. limit_of_reads sh.k sh.p (reads_in reads x) some;
-    refused = λ x e. too_many x (answered_no refusal (record { reason = reason.TooManyReads; place = x }) e);
+    limit = λ some group. limit_of_reads shape.k shape.p (symbols_read reads group) some;
+    refused = λ group e. too_many group (answered_no refusal (record { reason = reason.TooManyReads; place = group }) e);
   }
 
-  pub audited : answer_by Served refusal ≡ Ok Served → PlansAudited sh reads
-  audited e = let f = facts e in plans_audited sh reads (sound_words st f.state).ranges.symbols f.list.named f.list.few
+  pub audited : answer_by Served refusal ≡ Ok Served → PlansAudited shape reads
+  audited e = let f = facts e in plans_audited shape reads (sound_words state f.sound_state).ranges.symbols f.reads.named f.reads.few
 
-  pub systematic : answer_by Served refusal ≡ Ok Served → SystematicLines reads (cycle_schedule st s reads out schedule)
+  pub systematic : answer_by Served refusal ≡ Ok Served → SystematicLines reads (cycle_schedule state store list out schedule)
   systematic e =
       let f = facts e in
-      rw (accepted f) (systematic_lines sh reads schedule f.list.schedule_size (ok f).ranges.symbols f.list.named)
+      rw (passed f) (systematic_lines shape reads schedule f.reads.schedule_size (ok f).ranges.symbols f.reads.named)
 
 -- ---- the packet of a pair, where the cells of its row are those of the code
 
-module _ (sh : Shape) (s : List ℕ) (x r : ℕ) (packets : List Packet) (sized : Sized sh.p packets)
-    (cells : (b : ℕ) → 1 ≤ b → b ≤ banks sh → cell_at sh s x b r ≡ bank_cell sh.p packets b) where
-  as_coded : (a b : ℕ) → 1 ≤ a → a ≤ banks sh → b ≤ banks sh → xor_of_cells sh s x r (opens a b) ≡ xor_of_banks sh.p packets (opens a b)
+module _ (shape : Shape) (store : List ℕ) (group row : ℕ) (packets : List Packet) (sized : Sized shape.p packets)
+    (cells : (b : ℕ) → 1 ≤ b → b ≤ banks shape → cell_at shape store group b row ≡ bank_cell shape.p packets b) where
+  as_coded : (a b : ℕ) → 1 ≤ a → a ≤ banks shape → b ≤ banks shape
+      → xor_of_cells shape store group row (opens a b) ≡ xor_of_banks shape.p packets (opens a b)
   as_coded a zero l u v = rw (cells a l u)
   as_coded a (suc b) l u v = rw (cells a l u, cells (suc b) (omega arith) v)
 
-  pub coded_packet : (i : ℕ) (p : Pair) → i < length packets → Serves sh.k i p → xor_of_cells sh s x r (opened p) ≡ get_or packets i []
-  coded_packet i p l serves =
-      as_coded p.a p.b serves.first_from serves.first_to serves.second_to
-      ∙ set_linear sh.p packets (opened p) sized
-      ∙ ap (bank_cell sh.p packets) (opens_xor p.a p.b ∙ serves.differ)
-      ∙ cell_one sh.p packets i l sized
+  pub coded_packet : (symbol : ℕ) (p : Pair) → symbol < length packets → Serves (is_bank shape.k) symbol p
+      → xor_of_cells shape store group row (opened p) ≡ get_or packets symbol []
+  coded_packet symbol p l serves =
+      as_coded p.a p.b (omega (arith, serves.above)) (first_to shape.k (λ b h. h) serves) (second_to shape.k (λ b h. h) serves)
+      ∙ set_linear shape.p packets (opened p) sized
+      ∙ ap (bank_cell shape.p packets) (opens_xor p.a p.b ∙ serves.differ)
+      ∙ cell_one shape.p packets symbol l sized

@@ -1,118 +1,140 @@
--- Set-up, write, packet update, release of a row or of a row set, and the read cycle: when each is refused, what it answers, and what state, store and buffers it leaves.
-use Rattle.std.specs.Prelude.{Bool, not, ◌||◌, List, ℕ, eqb, ltb, length, Result, Ok, Err}
-use Rattle.bits.specs.Marks.{marked, how_many}
+-- Set-up, write, packet update, release of a row or of a row set, and the read cycle: when each is refused, what it answers, and what
+-- state, store and buffers it leaves.
+use Rattle.std.specs.Prelude.{Bool, not, ◌||◌, List, ℕ, ◌==◌, nat_lt, length, Result, Ok, Err}
+use Rattle.bits.specs.Marks.{marked}
 use Rattle.refusals.specs.declared.Refusal.{Refusal}
 use Rattle.refusals.specs.declared.Reason.{Reason}
 use Rattle.refusals.specs.declared.Reason.TheVariants as reason
 use Rattle.refusals.specs.Verdict.{Verdict, check, answer_by, ◌then◌, if_refused, first_refusal}
 use Rattle.layout.specs.declared.Shape.{Shape}
+use Rattle.layout.specs.declared.PacketName.{PacketName}
 use Rattle.rows.specs.Rows.{row_written, packet_updated}
 use Rattle.reads.specs.Refusals.{packet_refusal, list_refusal}
-use Rattle.cycle.specs.Cycle.{packets_out, lines_out}
+use Rattle.reads.specs.Reads.{reads_in}
+use Rattle.cycle.specs.Cycle.{plans_of, packets_out, lines_out}
 use Rattle.memory.specs.declared.State.{State}
 use Rattle.memory.specs.declared.SetUp.{SetUp}
 use Rattle.memory.specs.declared.Outcome.{Outcome}
-use Rattle.memory.specs.declared.Answer.TheVariants.{FullRows, Served}
-use Rattle.layout.specs.Shape.{most_rows, shape_refusal, store_size, generation_size}
-use Rattle.memory.specs.State.{is_full, full_rows, sound, empty, zero_state, row_toggled, rows_emptied}
+use Rattle.refusals.specs.declared.Answer.TheVariants.{FullRows, Served}
+use Rattle.layout.specs.declared.TheConstants.{MOST_ROWS}
+use Rattle.layout.specs.Occupancy.{is_full, is_empty}
+use Rattle.layout.specs.Shape.{shape_refusal, store_size, generation_size}
+use Rattle.memory.specs.State.{full_rows, sound, empty, zero_state, row_filled, row_emptied, rows_emptied}
 
 -- What set-up gives: a memory of that shape with every row empty, or a refusal and a state of zeros.
 abbrev pub set_up_of : Shape → SetUp
-set_up_of sh = record { state = if_refused zero_state (empty sh) (shape_refusal sh); verdict = shape_refusal sh }
+set_up_of shape = record { state = if_refused zero_state (empty shape) (shape_refusal shape); verdict = shape_refusal shape }
 
--- What an operation gives that makes one state into another: refused, the state as it was and the refusal; else the state made, and the number of
--- its full rows.
-abbrev pub outcome_by : (before after : State) → Verdict → Outcome
-outcome_by before after verdict = record { state = if_refused before after verdict; answer = answer_by (FullRows (full_rows after)) verdict }
+-- What an operation gives that makes one state into another: refused, the state as it was and the refusal; else the state made, and the
+-- number of its full rows.
+abbrev pub outcome_by : (before made : State) → Verdict → Outcome
+outcome_by before made verdict = record { state = if_refused before made verdict; answer = answer_by (FullRows (full_rows made)) verdict }
 
--- The same, from the state that was made or the refusal; its full rows are counted among all that a word has marks for. No public promise cites it.
+-- The same, from the state that was made or the refusal. No public promise cites it.
 abbrev pub outcome_after : (before : State) → Result State Refusal → Outcome
-outcome_after before (Ok after) = record { state = after; answer = Ok (FullRows (how_many (marked after.full) most_rows)) }
+outcome_after before (Ok made) = record { state = made; answer = Ok (FullRows (full_rows made)) }
 outcome_after before (Err refusal) = record { state = before; answer = Err refusal }
 
--- Where a store is lent. 5, the state is broken. 6, the store's length is wrong.
-abbrev pub store_refusal : State → ℕ → Verdict
-store_refusal st size = check reason.BrokenState 0 (sound st) then check reason.StoreLength 0 (eqb size (store_size st.shape))
+-- 5, the state is broken.
+abbrev pub state_refusal : State → Verdict
+state_refusal state = check reason.BrokenState 0 (sound state)
+
+-- Where a store is lent: 5; then 6, the store's length is wrong.
+abbrev pub store_refusal : State → (size : ℕ) → Verdict
+store_refusal state size = state_refusal state then check reason.StoreLength 0 (size == store_size state.shape)
 
 -- ---- write
 
--- With these rows full. 7, the row is G or more. 8, the row is full. 10, the generation isn't m·K·P bytes.
-abbrev pub write_checks : Shape → (full : ℕ → Bool) → (row len : ℕ) → Verdict
-write_checks sh full row len = check reason.NoSuchRow 0 (ltb row sh.g) then check reason.FullRow 0 (not (full row)) then check reason.PacketsLength 0 (eqb len (generation_size sh))
+-- With these rows empty. 7, the row is G or more. 8, the row is full. 10, the generation isn't m·K·P bytes.
+abbrev pub write_checks : Shape → (empty : ℕ → Bool) → (row len : ℕ) → Verdict
+write_checks shape empty row len =
+    check reason.NoSuchRow 0 (nat_lt row shape.g)
+    then check reason.FullRow 0 (empty row)
+    then check reason.PacketsLength 0 (len == generation_size shape)
 
 -- 5 and 6; then 7, 8, 10.
 unfoldable pub write_refusal : State → (size row len : ℕ) → Verdict
-write_refusal st size row len = store_refusal st size then write_checks st.shape (is_full st) row len
+write_refusal state size row len = store_refusal state size then write_checks state.shape (is_empty state.rows) row len
 
 abbrev pub write_outcome : State → (size row len : ℕ) → Outcome
-write_outcome st size row len = outcome_by st (row_toggled st row) (write_refusal st size row len)
+write_outcome state size row len = outcome_by state (row_filled state row) (write_refusal state size row len)
 
-abbrev pub write_store : State → (s : List ℕ) → (row : ℕ) → (generation : List ℕ) → List ℕ
-write_store st s row generation = if_refused s (row_written st.shape row generation s) (write_refusal st (length s) row (length generation))
+abbrev pub write_store : State → (store : List ℕ) → (row : ℕ) → (generation : List ℕ) → List ℕ
+write_store state store row generation =
+    if_refused store (row_written state.shape row generation store) (write_refusal state (length store) row (length generation))
 
--- ---- packet update (02: a patch)
+-- ---- packet update (customers say: a patch)
 
--- With these rows full. 7, the row is G or more. 14, the group is m or more. 15, the symbol is K or more. 9, the row is empty. 10, the packet isn't P
--- bytes.
-abbrev pub update_checks : Shape → (full : ℕ → Bool) → (row x i len : ℕ) → Verdict
-update_checks sh full row x i len = packet_refusal sh full 0 row x i then check reason.PacketsLength 0 (eqb len sh.p)
+-- With these rows full. 7, the row is G or more. 14, the group is m or more. 15, the symbol is K or more. 9, the row is empty. 10, the
+-- packet isn't P bytes.
+abbrev pub update_checks : Shape → (full : ℕ → Bool) → (name : PacketName) → (len : ℕ) → Verdict
+update_checks shape full name len =
+    packet_refusal shape full 0 name then check reason.PacketsLength 0 (len == shape.p)
 
 -- 5 and 6; then 7, 14, 15, 9, 10.
-unfoldable pub update_refusal : State → (size row x i len : ℕ) → Verdict
-update_refusal st size row x i len = store_refusal st size then update_checks st.shape (is_full st) row x i len
+unfoldable pub update_refusal : State → (size : ℕ) → (name : PacketName) → (len : ℕ) → Verdict
+update_refusal state size name len = store_refusal state size then update_checks state.shape (is_full state.rows) name len
 
 -- The state comes back as it was.
-abbrev pub update_outcome : State → (size row x i len : ℕ) → Outcome
-update_outcome st size row x i len = outcome_by st st (update_refusal st size row x i len)
+abbrev pub update_outcome : State → (size : ℕ) → (name : PacketName) → (len : ℕ) → Outcome
+update_outcome state size name len = outcome_by state state (update_refusal state size name len)
 
-abbrev pub update_store : State → (s : List ℕ) → (row x i : ℕ) → (packet : List ℕ) → List ℕ
-update_store st s row x i packet = if_refused s (packet_updated st.shape row x i packet s) (update_refusal st (length s) row x i (length packet))
+abbrev pub update_store : State → (store : List ℕ) → (name : PacketName) → (packet : List ℕ) → List ℕ
+update_store state store name packet =
+    if_refused store (packet_updated state.shape name.row name.group name.symbol packet store)
+    (update_refusal state (length store) name (length packet))
 
 -- ---- release
 
 -- 7, the row is G or more. 9, the row is empty.
 abbrev pub release_checks : Shape → (full : ℕ → Bool) → (row : ℕ) → Verdict
-release_checks sh full row = check reason.NoSuchRow 0 (ltb row sh.g) then check reason.EmptyRow 0 (full row)
+release_checks shape full row = check reason.NoSuchRow 0 (nat_lt row shape.g) then check reason.EmptyRow 0 (full row)
 
--- 5, the state is broken; then 7, 9.
+-- 5; then 7, 9.
 unfoldable pub release_refusal : State → (row : ℕ) → Verdict
-release_refusal st row = check reason.BrokenState 0 (sound st) then release_checks st.shape (is_full st) row
+release_refusal state row = state_refusal state then release_checks state.shape (is_full state.rows) row
 
 abbrev pub release_outcome : State → ℕ → Outcome
-release_outcome st row = outcome_by st (row_toggled st row) (release_refusal st row)
+release_outcome state row = outcome_by state (row_emptied state row) (release_refusal state row)
 
--- ---- release of a row set (02: clearing several rows): row r's mark is bit r of the set. Marks from the 64th on, which no word has, count for nothing.
+-- ---- release of a row set (customers say: clearing several rows): row r's mark is bit r of the set. Marks from the 64th on, which no word
+-- has, count for nothing.
 
 -- Accepted where every row of a set passes a test; else refused for this reason, with the first row that doesn't as place.
 unfoldable pub each_row : (why : Reason) → (set : ℕ) → (test : ℕ → Bool) → Verdict
-each_row why set test = first_refusal (λ r. check why r (not (marked set r) || test r)) most_rows
+each_row why set test = first_refusal (λ row. check why row (not (marked set row) || test row)) MOST_ROWS
 
 -- 7, a marked row is G or more. Then 9, a marked row is empty.
 abbrev pub release_set_checks : Shape → (full : ℕ → Bool) → (set : ℕ) → Verdict
-release_set_checks sh full set = each_row reason.NoSuchRow set (λ r. ltb r sh.g) then each_row reason.EmptyRow set full
+release_set_checks shape full set = each_row reason.NoSuchRow set (λ row. nat_lt row shape.g) then each_row reason.EmptyRow set full
 
--- 5, the state is broken; then 7, 9.
+-- 5; then 7, 9.
 unfoldable pub release_set_refusal : State → (set : ℕ) → Verdict
-release_set_refusal st set = check reason.BrokenState 0 (sound st) then release_set_checks st.shape (is_full st) set
+release_set_refusal state set = state_refusal state then release_set_checks state.shape (is_full state.rows) set
 
 abbrev pub release_set_outcome : State → (set : ℕ) → Outcome
-release_set_outcome st set = outcome_by st (rows_emptied st set) (release_set_refusal st set)
+release_set_outcome state set = outcome_by state (rows_emptied state set) (release_set_refusal state set)
 
 -- ---- read cycle
 
 -- 5 and 6. Then the list and the buffers: 13; read by read 7, 14, 15, 9; 12; 16.
-unfoldable pub cycle_refusal : State → (size : ℕ) → List ℕ → (out schedule : ℕ) → Verdict
-cycle_refusal st size reads out schedule = store_refusal st size then list_refusal st.shape (is_full st) reads out schedule
+unfoldable pub cycle_refusal : State → (size : ℕ) → (list : List ℕ) → (out schedule : ℕ) → Verdict
+cycle_refusal state size list out schedule = store_refusal state size then list_refusal state.shape (is_full state.rows) list out schedule
 
 -- The state comes back as it was.
-abbrev pub cycle_outcome : State → (size : ℕ) → List ℕ → (out schedule : ℕ) → Outcome
-cycle_outcome st size reads out schedule = record { state = st; answer = answer_by Served (cycle_refusal st size reads out schedule) }
+abbrev pub cycle_outcome : State → (size : ℕ) → (list : List ℕ) → (out schedule : ℕ) → Outcome
+cycle_outcome state size list out schedule =
+    record { state = state; answer = answer_by Served (cycle_refusal state size list out schedule) }
 
--- The output and the schedule after it.
-abbrev pub cycle_output : State → (s reads out schedule : List ℕ) → List ℕ
-cycle_output st s reads out schedule =
-    if_refused out (packets_out st.shape s reads out) (cycle_refusal st (length s) reads (length out) (length schedule))
+-- The output and the schedule after it, by the plans of the list's reads.
+abbrev pub cycle_output : State → (store list out schedule : List ℕ) → List ℕ
+cycle_output state store list out schedule =
+    let reads = reads_in list in
+    if_refused out (packets_out state.shape (plans_of state.shape.k reads) store reads out)
+    (cycle_refusal state (length store) list (length out) (length schedule))
 
-abbrev pub cycle_schedule : State → (s reads out schedule : List ℕ) → List ℕ
-cycle_schedule st s reads out schedule =
-    if_refused schedule (lines_out st.shape reads schedule) (cycle_refusal st (length s) reads (length out) (length schedule))
+abbrev pub cycle_schedule : State → (store list out schedule : List ℕ) → List ℕ
+cycle_schedule state store list out schedule =
+    let reads = reads_in list in
+    if_refused schedule (lines_out (plans_of state.shape.k reads) reads schedule)
+    (cycle_refusal state (length store) list (length out) (length schedule))

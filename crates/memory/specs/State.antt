@@ -1,44 +1,42 @@
--- The state of a memory: its shape, and which rows are full.
-use Rattle.std.specs.Prelude.{◌≡◌, Bool, false, ◌&&◌, not, ℕ, ◌≤◌}
-use Rattle.bits.specs.Marks.{marked, toggled, none_from, how_many}
-use Rattle.bits.specs.Sets.{set_of}
+-- The state of a memory: its shape, and which of its rows are full.
+use Rattle.std.specs.Prelude.{Bool, ◌&&◌, ℕ}
 use Rattle.std.specs.Result.{is_ok}
+use Rattle.layout.specs.declared.TheConstants.{MOST_ROWS}
 use Rattle.layout.specs.declared.Shape.{Shape}
+use Rattle.layout.specs.declared.occupancy.Rows.{Rows}
+use Rattle.layout.specs.Occupancy.{all_empty, with_full, with_empty, without, full_count, none_from, EmptyFrom}
+use Rattle.layout.specs.Shape.{shape_refusal, InRange}
 use Rattle.memory.specs.declared.State.{State}
-use Rattle.layout.specs.Shape.{most_rows, shape_refusal, InRange}
 
--- Whether row r is full.
-abbrev pub is_full : State → ℕ → Bool
-is_full st r = marked st.full r
-
--- The number of full rows.
+-- The number of full rows: in a state that is not broken none from G on is full.
 abbrev pub full_rows : State → ℕ
-full_rows st = how_many (is_full st) st.shape.g
+full_rows state = full_count state.rows MOST_ROWS
 
--- Whether a state is not broken: it keeps set-up's ranges and marks no row from G on as full.
+-- Whether a state is not broken: it keeps set-up's ranges, and no row from G on is full.
 unfoldable pub sound : State → Bool
-sound st = is_ok (shape_refusal st.shape) && none_from st.full st.shape.g
+sound state = is_ok (shape_refusal state.shape) && none_from state.rows state.shape.g
 
 -- The same in words.
-pub record Sound (st : State) : Type 0 where
-  pub ranges : InRange st.shape
-  pub rows : (r : ℕ) → st.shape.g ≤ r → is_full st r ≡ false
+pub record Sound (state : State) : Type 0 where
+  pub ranges : InRange state.shape
+  pub rows : EmptyFrom state.rows state.shape.g
 
 -- A state with no row full, and the state of zeros.
 abbrev pub empty : Shape → State
-empty sh = record { shape = sh; full = 0 }
+empty shape = record { shape = shape; rows = all_empty }
 
 abbrev pub zero_state : State
 zero_state = empty (record { k = 0; m = 0; p = 0; g = 0 })
 
--- The state with just these rows full.
-abbrev pub with_full : State → ℕ → State
-with_full st full = record { shape = st.shape; full = full }
+-- The state with these rows; with one row made full, one made empty, each row of a set made empty.
+abbrev pub with_rows : State → Rows → State
+with_rows state rows = record state { rows = rows }
 
--- The state with row r's mark toggled: an empty row becomes full, a full one empty.
-abbrev pub row_toggled : State → ℕ → State
-row_toggled st r = with_full st (toggled st.full r)
+abbrev pub row_filled : State → (row : ℕ) → State
+row_filled state row = with_rows state (with_full state.rows row)
 
--- The state with every row of a set empty, and every other row as it was.
+abbrev pub row_emptied : State → (row : ℕ) → State
+row_emptied state row = with_rows state (with_empty state.rows row)
+
 abbrev pub rows_emptied : State → (set : ℕ) → State
-rows_emptied st set = with_full st (set_of (λ r. is_full st r && not (marked set r)) most_rows)
+rows_emptied state set = with_rows state (without state.rows set)

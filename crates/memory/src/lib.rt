@@ -1,55 +1,39 @@
 // A memory: its state, and the operations that set it up, write a row, update a packet of one, release one or several and read packets.
 #![tactic(auto)]
 
-ghost use Rattle.std.specs.Prelude.{◌≡◌, ◌<◌, length, Ok};
+ghost use Rattle.std.specs.Prelude.{◌≡◌, length, Ok};
 ghost use Rattle.bits.specs.Marks.{marked};
-ghost use Rattle.refusals.specs.declared.Reason.TheVariants.{BrokenState};
-ghost use Rattle.refusals.specs.Verdict.{check, answer_by};
+ghost use Rattle.refusals.specs.Verdict.{answer_by};
 ghost use Rattle.layout.specs.Judged.{Judged};
-ghost use Rattle.layout.specs.Shape.{most_rows};
-ghost use Rattle.memory.specs.State.{sound, row_toggled, rows_emptied};
-ghost use Rattle.memory.specs.Operations.{set_up_of, outcome_after, store_refusal, write_refusal, write_outcome, write_store, update_refusal, update_outcome, update_store, release_refusal, release_outcome, each_row, release_set_refusal, release_set_outcome, cycle_refusal, cycle_outcome, cycle_output, cycle_schedule};
+ghost use Rattle.memory.specs.State.{empty, with_rows, row_filled, row_emptied, rows_emptied};
+ghost use Rattle.memory.specs.Operations.{set_up_of, outcome_after, state_refusal, store_refusal, write_refusal, write_outcome, write_store, update_refusal, update_outcome, update_store, release_refusal, release_outcome, each_row, release_set_refusal, release_set_outcome, cycle_refusal, cycle_outcome, cycle_output, cycle_schedule};
+ghost use Rattle.reads.specs.Reads.{reads_in};
 ghost use Rattle.cycle.specs.Served.{PlansAudited, SystematicLines};
-ghost use Rattle.memory.specs.declared.Answer.TheVariants.{Served};
-ghost use Rattle.memory.specs.Demand3.{Demand3};
-ghost use Rattle.memory.specs.Laws.{TheMemory};
+ghost use Rattle.refusals.specs.declared.Answer.TheVariants.{Served};
+ghost use Rattle.memory.specs.CycleLaw.{CycleLaw};
+ghost use Rattle.memory.specs.Laws.{StateLaws, RowLaws, UpdateLaws, ReleaseSetLaws};
+ghost use Rattle.memory.specs.History.{RecallLaw};
 
-use layout::{Geometry, PacketName, Shape, Store};
-use refusals::{Reason, Refusal, Verdict, check, refused};
-use std::fmt;
+use layout::{Geometry, PacketName, Rows, Shape, Store};
+use refusals::{Answer, Reason, Refusal, Verdict, check, refused};
 
-// What a memory's operations are given and give back. Row r is full where it is marked in `full`.
+// What a memory's operations are given and give back.
 #[derive(Clone, Copy, Debug, Default, PartialEq, Eq)]
 pub struct State {
     pub shape: Shape,
-    pub full: u64,
+    pub rows: Rows,
 }
 
-// What set-up gives: the state, and whether it was accepted. No `Result`, since the project's rules have a refused set-up return a state too, of zeros.
+// What set-up gives: the state, and whether it was accepted. No `Result`, since the project's rules have a refused set-up return a state
+// too, of zeros.
 #[derive(Clone, Copy, Debug, PartialEq, Eq)]
 pub struct SetUp {
     pub state: State,
     pub verdict: Verdict,
 }
 
-// What an accepted operation answers: the number of full rows, if it changes the state or the store; or that a read cycle is served.
-// No `Option<usize>`: "served" is an answer with a name of its own, and not the lack of one.
-#[derive(Clone, Copy, Debug, PartialEq, Eq)]
-pub enum Answer {
-    FullRows(usize),
-    Served,
-}
-
-impl fmt::Display for Answer {
-    fn fmt<W: fmt::Write>(&self, f: &mut fmt::Formatter<W>) -> fmt::Result {
-        match self {
-            Answer::FullRows(rows) => write!(f, "full rows {rows}"),
-            Answer::Served => write!(f, "served"),
-        }
-    }
-}
-
-// What an operation gives: the state, and its answer or refusal. The state comes back refused or not, as the project's rules say, so it stands beside the `Result`.
+// What an operation gives: the state, and its answer or refusal. The state comes back refused or not, as the project's rules say, so it
+// stands beside the `Result`.
 #[derive(Clone, Copy, Debug, PartialEq, Eq)]
 pub struct Outcome {
     pub state: State,
@@ -63,14 +47,18 @@ impl Outcome {
     {
         Outcome {
             state: after.unwrap_or(before),
-            answer: after.map(|state| Answer::FullRows(bits::count(state.full))),
+            answer: after.map(|state| Answer::FullRows(state.rows.full_count())),
         }
     }
 }
 
 // Carries the laws of the memory. It does nothing.
 pub fn the_memory()
-    ensures { TheMemory }
+    ensures states { StateLaws }
+    ensures rows { RowLaws }
+    ensures updates { UpdateLaws }
+    ensures release_sets { ReleaseSetLaws }
+    ensures recall { RecallLaw }
 {}
 
 // Accepted where every row of a set is in another; else refused for this reason, at the first that isn't.
@@ -82,24 +70,32 @@ fn judge_rows(reason: Reason, set: u64, within: u64) -> Verdict
 }
 
 impl State {
+    // A state of this shape, with every row empty.
+    fn empty(shape: Shape) -> State
+        ensures { result ≡ empty shape }
+    {
+        State {
+            shape,
+            rows: Rows::default(),
+        }
+    }
+
     // Sets up a memory with every row empty, or refuses the shape: 1 to 4.
     pub fn set_up(shape: Shape) -> SetUp
         ensures { result ≡ set_up_of shape }
     {
         let verdict = layout::judge_shape(shape);
-        let state = verdict
-            .map(|()| State { shape, full: 0 })
-            .unwrap_or_default();
+        let state = verdict.map(|()| State::empty(shape)).unwrap_or_default();
         SetUp { state, verdict }
     }
 
-    // The geometry of a state that is not broken; else 5: it breaks set-up's ranges, or marks a row from G on.
+    // The geometry of a state that is not broken; else 5: it breaks set-up's ranges, or a row from G on is full.
     #[tactic(auto, unfolding(crate::specs::State::sound))]
     fn judge(self) -> Result<Geometry, Refusal>
-        ensures { Judged self.shape (check BrokenState 0 (sound self)) result }
+        ensures { Judged self.shape (state_refusal self) result }
     {
         match Geometry::try_from(self.shape) {
-            Ok(geometry) if bits::none_from(self.full, self.shape.g) => Ok(geometry),
+            Ok(geometry) if self.rows.none_from(self.shape.g) => Ok(geometry),
             _ => refused(Reason::BrokenState, 0),
         }
     }
@@ -113,36 +109,34 @@ impl State {
         Ok(geometry)
     }
 
-    // A row's mark toggled: the state after an accepted write or release.
-    fn toggle_row(self, row: usize) -> State
-        requires { row < most_rows }
-        ensures { result ≡ row_toggled self row }
+    // The state with these rows.
+    fn with_rows(self, rows: Rows) -> State
+        ensures { result ≡ with_rows self rows }
     {
-        State {
-            full: bits::toggle(self.full, row),
-            ..self
-        }
+        State { rows, ..self }
     }
 
     // The state after a write of a generation to an empty row, or its refusal: 5, 6, 7, 8, 10.
     #[tactic(auto, unfolding(crate::specs::Operations::write_refusal))]
     fn try_write(self, store: &mut [u8], row: usize, generation: &[u8]) -> Result<State, Refusal>
-        ensures after { result ≡ answer_by (row_toggled self row) (write_refusal self (length store.old) row (length generation.now)) }
+        ensures after { result ≡ answer_by (row_filled self row)
+            (write_refusal self (length store.old) row (length generation.now)) }
         ensures store { store.new ≡ write_store self store.old row generation.now }
     {
         let geometry = self.judge_store(store.len())?;
         check(row < self.shape.g, Reason::NoSuchRow, 0)?;
-        check(!bits::is_marked(self.full, row), Reason::FullRow, 0)?;
+        check(self.rows.is_empty(row), Reason::FullRow, 0)?;
         let whole = generation.len() == geometry.generation_size();
         check(whole, Reason::PacketsLength, 0)?;
         rows::write_row(store, geometry, row, generation);
-        Ok(self.toggle_row(row))
+        Ok(self.with_rows(self.rows.with_full(row)))
     }
 
     // Writes a generation, m·K packets, to an empty row, which it makes full; or refuses: 5, 6, 7, 8, 10.
-    #[tactic(auto, using(crate::proofs::Outcomes::written))]
+    #[tactic(auto, using(crate::proofs::States::outcome))]
     pub fn write(self, store: &mut [u8], row: usize, generation: &[u8]) -> Outcome
-        ensures outcome { result ≡ write_outcome self (length store.old) row (length generation.now) }
+        ensures outcome { result ≡ write_outcome self
+            (length store.old) row (length generation.now) }
         ensures store { store.new ≡ write_store self store.old row generation.now }
     {
         Outcome::of(self, self.try_write(store, row, generation))
@@ -151,23 +145,24 @@ impl State {
     // The state after an update, as it was, or its refusal: 5, 6, 7, 14, 15, 9, 10.
     #[tactic(auto, unfolding(crate::specs::Operations::update_refusal))]
     fn try_update(self, store: &mut [u8], name: PacketName, packet: &[u8]) -> Result<State, Refusal>
-        ensures after { result ≡ answer_by self (update_refusal self (length store.old) name.row name.group name.symbol (length packet.now)) }
-        ensures store { store.new ≡ update_store self store.old name.row name.group name.symbol packet.now }
+        ensures after { result ≡ answer_by self
+            (update_refusal self (length store.old) name (length packet.now)) }
+        ensures store { store.new ≡ update_store self store.old name packet.now }
     {
         let geometry = self.judge_store(store.len())?;
-        reads::judge_packet(geometry, self.full, name, 0)?;
+        reads::judge_packet(geometry, self.rows, name, 0)?;
         check(packet.len() == self.shape.p, Reason::PacketsLength, 0)?;
         rows::update_packet(store, geometry, name, packet);
         Ok(self)
     }
 
-    // Changes one packet of a full row (02: a patch): the old packet, which is the one in the symbol's systematic bank, and the
-    // new one are XORed into each of the 2^(K-1) banks of the group that hold the symbol, in that row. The state stays as it is. Or refuses: 5, 6, 7, 14,
-    // 15, 9, 10.
-    #[tactic(auto, using(crate::proofs::Outcomes::updated))]
+    // Changes one packet of a full row (customers say: a patch): the old packet, which is the one in the symbol's systematic bank, and
+    // the new one are XORed into each of the 2^(K-1) banks of the group that hold the symbol, in that row. The state stays as it is. Or
+    // refuses: 5, 6, 7, 14, 15, 9, 10.
+    #[tactic(auto, using(crate::proofs::States::outcome))]
     pub fn update(self, store: &mut [u8], name: PacketName, packet: &[u8]) -> Outcome
-        ensures outcome { result ≡ update_outcome self (length store.old) name.row name.group name.symbol (length packet.now) }
-        ensures store { store.new ≡ update_store self store.old name.row name.group name.symbol packet.now }
+        ensures outcome { result ≡ update_outcome self (length store.old) name (length packet.now) }
+        ensures store { store.new ≡ update_store self store.old name packet.now }
     {
         Outcome::of(self, self.try_update(store, name, packet))
     }
@@ -175,16 +170,16 @@ impl State {
     // The state after a release, or its refusal: 5, 7, 9.
     #[tactic(auto, unfolding(crate::specs::Operations::release_refusal))]
     fn try_release(self, row: usize) -> Result<State, Refusal>
-        ensures { result ≡ answer_by (row_toggled self row) (release_refusal self row) }
+        ensures { result ≡ answer_by (row_emptied self row) (release_refusal self row) }
     {
         self.judge()?;
         check(row < self.shape.g, Reason::NoSuchRow, 0)?;
-        check(bits::is_marked(self.full, row), Reason::EmptyRow, 0)?;
-        Ok(self.toggle_row(row))
+        check(self.rows.is_full(row), Reason::EmptyRow, 0)?;
+        Ok(self.with_rows(self.rows.with_empty(row)))
     }
 
     // Makes a full row empty; or refuses: 5, 7, 9. No byte of a store changes: it is given none.
-    #[tactic(auto, using(crate::proofs::Outcomes::released))]
+    #[tactic(auto, using(crate::proofs::States::outcome))]
     pub fn release(self, row: usize) -> Outcome
         ensures { result ≡ release_outcome self row }
     {
@@ -192,22 +187,19 @@ impl State {
     }
 
     // The state after a release of a row set, or its refusal: 5; 7 at its first row that is G or more; then 9 at its first empty row.
-    #[tactic(auto, using(crate::proofs::Emptying::set_refusal_by_sets))]
+    #[tactic(auto, using(crate::proofs::Emptying::there_by_set))]
     fn try_release_set(self, set: u64) -> Result<State, Refusal>
         ensures { result ≡ answer_by (rows_emptied self set) (release_set_refusal self set) }
     {
         self.judge()?;
         judge_rows(Reason::NoSuchRow, set, bits::below(self.shape.g))?;
-        judge_rows(Reason::EmptyRow, set, self.full)?;
-        Ok(State {
-            full: bits::without(self.full, set),
-            ..self
-        })
+        judge_rows(Reason::EmptyRow, set, self.rows.full_set())?;
+        Ok(self.with_rows(self.rows.without(set)))
     }
 
-    // Makes every row of a set empty, row r's mark being bit r. Or refuses, and then none is: 5; 7 at its first row that is G or more; then 9 at its first
-    // empty row. No byte of a store changes: it is given none.
-    #[tactic(auto, using(crate::proofs::Outcomes::set_released))]
+    // Makes every row of a set empty, row r's mark being bit r. Or refuses, and then none is: 5; 7 at its first row that is G or more;
+    // then 9 at its first empty row. No byte of a store changes: it is given none.
+    #[tactic(auto, using(crate::proofs::States::outcome))]
     pub fn release_set(self, set: u64) -> Outcome
         ensures { result ≡ release_set_outcome self set }
     {
@@ -220,44 +212,50 @@ impl State {
     fn try_read_cycle(
         self,
         store: &[u8],
-        reads: &[u8],
+        list: &[u8],
         out: &mut [u8],
         schedule: &mut [u8],
     ) -> Result<Answer, Refusal>
-        ensures answer { result ≡ answer_by Served (cycle_refusal self (length store.now) reads.now (length out.old) (length schedule.old)) }
-        ensures output { out.new ≡ cycle_output self store.now reads.now out.old schedule.old }
-        ensures lines { schedule.new ≡ cycle_schedule self store.now reads.now out.old schedule.old }
+        ensures answer { result ≡ answer_by Served
+            (cycle_refusal self (length store.now) list.now
+            (length out.old) (length schedule.old)) }
+        ensures output { out.new ≡ cycle_output self store.now list.now out.old schedule.old }
+        ensures lines { schedule.new ≡ cycle_schedule self store.now list.now out.old schedule.old }
     {
         let geometry = self.judge_store(store.len())?;
         let store = Store {
             geometry,
             bytes: store,
         };
-        cycle::run(store, self.full, reads, out, schedule)?;
+        cycle::run(store, self.rows, list, out, schedule)?;
         Ok(Answer::Served)
     }
 
-    // Serves a list of reads (01: asks; three bytes each: row, group, symbol) in one cycle: the packets to the output, P bytes each, and the banks
-    // opened for each to the schedule (01: the sheet), two bytes each, systematic banks alone in a group where no symbol is read more than once; or
-    // refuses: 5, 6, 13, read by read 7, 14, 15, 9, then 12, 16. The store is lent for reading only.
-    #[tactic(auto, using(crate::proofs::Cycles::demand3, crate::proofs::Cycles::audited, crate::proofs::Cycles::systematic))]
+    // Serves a list of reads (customers say: asks; three bytes each: row, group, symbol) in one cycle: the packets to the output, P bytes
+    // each, and the banks opened for each to the schedule (customers say: the sheet), two bytes each, systematic banks alone in a group
+    // where no symbol is read more than once; or refuses: 5, 6, 13, read by read 7, 14, 15, 9, then 12, 16. The store is lent for reading
+    // only.
+    #[tactic(auto, using(crate::proofs::Cycles::cycle_law))]
     pub fn read_cycle(
         self,
         store: &[u8],
-        reads: &[u8],
+        list: &[u8],
         out: &mut [u8],
         schedule: &mut [u8],
     ) -> Outcome
-        ensures outcome { result ≡ cycle_outcome self (length store.now) reads.now (length out.old) (length schedule.old) }
-        ensures output { out.new ≡ cycle_output self store.now reads.now out.old schedule.old }
-        ensures lines { schedule.new ≡ cycle_schedule self store.now reads.now out.old schedule.old }
-        ensures demand3 { Demand3 self store.now reads.now (length out.old) (length schedule.old) result.answer out.new schedule.new }
-        ensures plans { result.answer ≡ Ok Served → PlansAudited self.shape reads.now }
-        ensures systematic { result.answer ≡ Ok Served → SystematicLines reads.now schedule.new }
+        ensures outcome { result ≡ cycle_outcome self (length store.now) list.now
+            (length out.old) (length schedule.old) }
+        ensures output { out.new ≡ cycle_output self store.now list.now out.old schedule.old }
+        ensures lines { schedule.new ≡ cycle_schedule self store.now list.now out.old schedule.old }
+        ensures cycle_law { CycleLaw self store.now list.now (length out.old) (length schedule.old)
+            result.answer out.new schedule.new }
+        ensures plans { result.answer ≡ Ok Served → PlansAudited self.shape (reads_in list.now) }
+        ensures systematic { result.answer ≡ Ok Served →
+            SystematicLines (reads_in list.now) schedule.new }
     {
         Outcome {
             state: self,
-            answer: self.try_read_cycle(store, reads, out, schedule),
+            answer: self.try_read_cycle(store, list, out, schedule),
         }
     }
 }

@@ -13,11 +13,12 @@ use Rattle.refusals.specs.declared.Reason.TheVariants as reason
 use Rattle.refusals.specs.Verdict.{Verdict, Accepted, check}
 use Rattle.refusals.proofs.Verdicts.{first_accepted, next_accepted, check_passed}
 use Rattle.simplex.specs.declared.Group.{Group}
-use Rattle.simplex.specs.Shape.{most_symbols, group_of, limit_of}
-use Rattle.simplex.specs.Limit.{total}
+use Rattle.simplex.specs.declared.TheConstants.{MOST_SYMBOLS}
+use Rattle.simplex.specs.Shape.{group_of, limit_of, is_bank}
+use Rattle.std.specs.List.{sum}
 use Rattle.audit.specs.Plan.{Pair, is_plan}
 use Rattle.audit.specs.Audit.{counts_refusal, rest_of, pair_bytes, Yes, audit_of}
-use Rattle.audit.proofs.Served.{few}
+use Rattle.audit.proofs.Served.{at_most}
 use Rattle.audit.proofs.Answer as Answer
 use Rattle.audit.proofs.Answer.{request, accepted, says_yes, pairs_bytes, even_bytes}
 use Rattle.plan.specs.declared.Plan.{Plan}
@@ -29,28 +30,28 @@ use Rattle.plan.proofs.Planning.{systematic_law, is_plan_lem, passes}
 use Rattle.plan.proofs.Storing.{read_back}
 
 module _ (K : ℕ) (counts : List ℕ) where
-  within : length counts ≡ most_symbols → counts_refusal K counts ≡ Accepted → total counts ≤ limit_of K → WithinLimit K counts
+  within : length counts ≡ MOST_SYMBOLS → counts_refusal K counts ≡ Accepted → sum counts ≤ limit_of K → WithinLimit K counts
   within n e h = record { request = request K counts n e; total_most = h }
 
-  pub exactly : length counts ≡ most_symbols → (plan_refusal K counts ≡ Accepted) ↔ WithinLimit K counts
+  pub exactly : length counts ≡ MOST_SYMBOLS → (plan_refusal K counts ≡ Accepted) ↔ WithinLimit K counts
   unfolding plan_refusal
   exactly n = (
     λ e.
-        let last : Verdict = check reason.TooManyReads 0 (leb (total counts) (limit_of K)) in
+        let last : Verdict = check reason.TooManyReads 0 (leb (sum counts) (limit_of K)) in
         within n (first_accepted (counts_refusal K counts) last e)
-        (leb-true (total counts) (limit_of K) (check_passed reason.TooManyReads 0 (leb (total counts) (limit_of K)) (next_accepted (counts_refusal K counts) last e))),
-    λ w. rw (accepted K counts w.request, le-leb (total counts) (limit_of K) w.total_most),
+        (leb-true (sum counts) (limit_of K) (check_passed reason.TooManyReads 0 (leb (sum counts) (limit_of K)) (next_accepted (counts_refusal K counts) last e))),
+    λ w. rw (accepted K counts w.request, le-leb (sum counts) (limit_of K) w.total_most),
   )
 
   pub audited : WithinLimit K counts → audit_of K counts (pair_bytes (plan_of K counts)) ≡ Yes
   audited w =
       says_yes K counts (pair_bytes (plan_of K counts)) (accepted K counts w.request) (even_bytes (plan_of K counts))
-      (ap (is_plan K counts) (pairs_bytes (plan_of K counts)) ∙ passes K counts w)
+      (ap (is_plan (is_bank K) counts) (pairs_bytes (plan_of K counts)) ∙ passes K counts w)
 
   -- the plan of a request within the limit, in its arrays
   module _ (w : WithinLimit K counts) (plan : Plan) (is : plan ≡ stored (plan_of K counts)) where
     read : pairs_in plan ≡ plan_of K counts
-    read = ap pairs_in is ∙ read_back (plan_of K counts) (few K counts (plan_of K counts) w.request.symbols.most (passes K counts w))
+    read = ap pairs_in is ∙ read_back (plan_of K counts) (at_most K (λ b e. e) counts (plan_of K counts) w.request.symbols.most (passes K counts w))
 
     valid : PlanFor K counts plan
     valid = record {
@@ -62,15 +63,15 @@ module _ (K : ℕ) (counts : List ℕ) where
     systematic free = read ∙ systematic_law K counts free
 
   -- an accepted request, of which the limit leaves some reads
-  module _ (n : length counts ≡ most_symbols) (e : Accepted ≡ counts_refusal K counts) (group : Group) (g : group ≡ group_of K) (left : ℕ)
+  module _ (n : length counts ≡ MOST_SYMBOLS) (e : Accepted ≡ counts_refusal K counts) (group : Group) (g : group ≡ group_of K) (left : ℕ)
       (r : Some left ≡ rest_of group.limit counts) where
-    room_left : limit_of K ≡ total counts + left
+    room_left : limit_of K ≡ sum counts + left
     room_left = rw (← ap (λ (x : Group). x.limit) g) (Answer.within group.limit counts left r)
 
     pub fits : WithinLimit K counts
     fits = let room = room_left in within n (sym e) (omega arith)
 
-    pub left_is : left ≡ limit_of K - total counts
+    pub left_is : left ≡ limit_of K - sum counts
     left_is = let room = room_left in omega arith
 
     -- a plan of either kind keeps the promise

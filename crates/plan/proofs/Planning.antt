@@ -4,10 +4,11 @@ use mathlib.Core.Bool.{Bool, true, false}
 use mathlib.Core.List.{List, [], ◌∷◌, map}
 use Prim.Native.Nat.{ℕ, ◌^◌}
 use Rattle.simplex.specs.Limit.{reads_of, Servable}
+use Rattle.simplex.specs.Shape.{is_bank}
 use Rattle.audit.specs.Plan.{opened, is_plan, IsPlan}
 use Rattle.audit.specs.Audit.{RequestOf}
 use Rattle.audit.proofs.Reading.{complete}
-use Rattle.audit.proofs.Served.{served}
+use Rattle.audit.proofs.Served.{served_by}
 use Rattle.table.specs.Table.{row_of, row_pairs}
 use Rattle.table.proofs.Found.{valid}
 use Rattle.plan.specs.Systematic.{CollisionFree, collision_free, systematic_plan}
@@ -39,21 +40,21 @@ fits K counts request free = record { request = request; total_most = few_reads 
 
 -- ---- it is a plan
 
-pub table_plan_lem : (K : ℕ) (counts : List ℕ) → WithinLimit K counts → IsPlan K counts (table_plan K counts)
+pub table_plan_lem : (K : ℕ) (counts : List ℕ) → WithinLimit K counts → IsPlan (is_bank K) counts (table_plan K counts)
 unfolding table_plan
 table_plan_lem K counts w =
     renamed_plan K (rank K counts) (sorted_of K counts) counts (row_pairs (row_of K (sorted_of K counts)) (sorted_of K counts)) (permutes counts K)
     (valid K (sorted_of K counts) (sorted_request K counts w)) (enough K counts w) w.request.beyond
 
-pub is_plan_lem : (K : ℕ) (counts : List ℕ) → WithinLimit K counts → IsPlan K counts (plan_of K counts)
+pub is_plan_lem : (K : ℕ) (counts : List ℕ) → WithinLimit K counts → IsPlan (is_bank K) counts (plan_of K counts)
 is_plan_lem K counts w = go (collision_free counts) refl
   where
-    go : (t : Bool) → collision_free counts ≡ t → IsPlan K counts (plan_of K counts)
+    go : (t : Bool) → collision_free counts ≡ t → IsPlan (is_bank K) counts (plan_of K counts)
     go true e = rw (is_systematic K counts e) (systematic_plan_lem K counts w.request (free_words counts e))
     go false e = rw (is_from_table K counts e) (table_plan_lem K counts w)
 
 pub met : (K P : ℕ) (counts : List ℕ) → WithinLimit K counts → Servable K P (reads_of counts)
-met K P counts w = record { sets = map opened (plan_of K counts); served = served K P counts (plan_of K counts) (is_plan_lem K counts w) }
+met K P counts w = record { sets = map opened (plan_of K counts); served = served_by K (λ b e. e) P counts (plan_of K counts) (is_plan_lem K counts w) }
 
-pub passes : (K : ℕ) (counts : List ℕ) → WithinLimit K counts → is_plan K counts (plan_of K counts) ≡ true
-passes K counts w = complete K counts (plan_of K counts) (is_plan_lem K counts w)
+pub passes : (K : ℕ) (counts : List ℕ) → WithinLimit K counts → is_plan (is_bank K) counts (plan_of K counts) ≡ true
+passes K counts w = complete (is_bank K) counts (plan_of K counts) (is_plan_lem K counts w)

@@ -1,6 +1,5 @@
 -- Where no symbol is read more than once, the systematic banks are a plan, and each read opens one bank.
 use mathlib.Core.Path.{◌≡◌, refl, sym, ap, ◌∙◌, subst}
-use mathlib.Core.Logic.{⊎_elim}
 use mathlib.Core.Bool.{true}
 use mathlib.Core.List.{List, [], ◌∷◌, map}
 use Prim.Native.Nat.{ℕ, zero, suc, ◌+◌, ◌-◌, ◌^◌, ◌≤◌, ◌<◌}
@@ -15,12 +14,15 @@ use lib.Pow.{pow_pos, pow-lt, le_ones}
 use Rattle.std.proofs.lemmas.List.{get_or-map}
 use Rattle.bits.proofs.Bits.{below_power}
 use Rattle.refusals.proofs.Verdicts.{both}
-use Rattle.simplex.specs.Shape.{limit_of}
+use Rattle.simplex.specs.Shape.{limit_of, is_bank}
 use Rattle.simplex.specs.Code.{Banks}
-use Rattle.simplex.specs.Limit.{total, reads_of, In}
+use Rattle.std.specs.List.{sum, Contains}
+use Rattle.simplex.specs.Limit.{reads_of, start}
 use Rattle.simplex.proofs.Requests.{length_reads}
-use Rattle.audit.specs.Plan.{Pair, no_pair, opened, Serves, start, pair_at, IsPlan}
+use Rattle.audit.specs.Plan.{Pair, no_pair, opened, Serves, pair_at, IsPlan}
 use Rattle.audit.specs.Audit.{RequestOf}
+use Rattle.simplex.proofs.Contained.{contains_one}
+use Rattle.audit.proofs.Reading.{serves_in}
 use Rattle.audit.proofs.Places.{place_less, start_suc, start_all, read_at, Located, locate}
 use Rattle.plan.specs.Systematic.{CollisionFree, collision_free, systematic_pair, systematic_plan}
 
@@ -42,7 +44,7 @@ module _ (counts : List ℕ) where
   systematic_at i j h =
       get_or-map systematic_pair (reads_of counts) (start counts i + j) 0 no_pair (rw length_reads (place_less counts i j h)) ∙ ap systematic_pair (read_at counts i j h)
 
-  pub length_systematic : length (systematic_plan counts) ≡ total counts
+  pub length_systematic : length (systematic_plan counts) ≡ sum counts
   length_systematic = length-map (reads_of counts) systematic_pair ∙ length_reads counts
 
 -- where the reads of the next symbol start
@@ -54,14 +56,8 @@ pub start_most : (counts : List ℕ) → CollisionFree counts → (n : ℕ) → 
 start_most counts free zero = le_refl 0
 start_most counts free (suc n) = omega (arith, start_most counts free n, start_suc counts n, free n)
 
-serves : (K i : ℕ) → i < K → Serves K i (systematic_pair i)
-serves K i l = record {
-  first_from = pow_pos i;
-  first_to = le_ones K (pow-lt l);
-  second_to = omega arith;
-  above = pow_pos i;
-  differ = xor_zero_r (2 ^ i);
-}
+serves : (K i : ℕ) → i < K → Serves (is_bank K) i (systematic_pair i)
+serves K i l = serves_in K i (systematic_pair i) (le_ones K (pow-lt l)) (pow_pos i) (xor_zero_r (2 ^ i))
 
 -- two systematic banks that are one are of one symbol
 same_symbol : (i j : ℕ) → 2 ^ i ≡ 2 ^ j → i ≡ j
@@ -75,12 +71,12 @@ module _ (K : ℕ) (counts : List ℕ) (request : RequestOf K counts) (free : Co
   symbol_less i j h = by_contra (suc i) K (λ past. omega (arith, request.beyond i (omega arith)))
 
   -- the bank that read n opens
-  bank_at : (n b : ℕ) → (t : Located counts n) → In b (opened (pair_at (systematic_plan counts) n)) → b ≡ 2 ^ t.symbol
+  bank_at : (n b : ℕ) → (t : Located counts n) → Contains (opened (pair_at (systematic_plan counts) n)) b → b ≡ 2 ^ t.symbol
   bank_at n b t i =
-      ⊎_elim (λ e. e) (λ e. absurd e)
-      (subst (λ (p : Pair). In b (opened p)) (ap (pair_at (systematic_plan counts)) t.place ∙ systematic_at counts t.symbol t.nth t.nth_less) i)
+      contains_one (2 ^ t.symbol) b
+      (subst (λ (p : Pair). Contains (opened p) b) (ap (pair_at (systematic_plan counts)) t.place ∙ systematic_at counts t.symbol t.nth t.nth_less) i)
 
-  pub systematic_plan_lem : IsPlan K counts (systematic_plan counts)
+  pub systematic_plan_lem : IsPlan (is_bank K) counts (systematic_plan counts)
   systematic_plan_lem = record {
     one_each = length_systematic counts;
     in_order = λ i j h. rw (systematic_at counts i j h) (serves K i (symbol_less i j h));
@@ -92,7 +88,7 @@ module _ (K : ℕ) (counts : List ℕ) (request : RequestOf K counts) (free : Co
   }
 
   -- and K is at most 2^(K-1)
-  pub few_reads : total counts ≤ limit_of K
+  pub few_reads : sum counts ≤ limit_of K
   few_reads = omega (arith, start_all counts K request.beyond, start_most counts free K, below_power (K - 1), request.symbols.least)
 
 -- ---- one bank for each read

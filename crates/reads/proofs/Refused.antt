@@ -1,68 +1,67 @@
--- What a list that is refused with 12 tells: the place is the lowest group with too many reads, and every read's form is right.
-use mathlib.Core.Path.{◌≡◌, subst}
+-- What a list that is refused with 12 tells: the place is the lowest group with too many reads, and every read names a packet that is there.
+use Rattle.std.proofs.Common.{ℕ, ◌≡◌, ◌*◌, ◌%◌, ◌≤◌, ◌<◌, Bool, ◌&&◌, eqb, leb, ltb, List, length, sum, subst}
 use mathlib.Core.Logic.{⊎_elim}
-use mathlib.Core.Bool.{Bool, ◌&&◌}
-use mathlib.Core.List.{List}
-use Prim.Native.Nat.{ℕ, ◌*◌, ◌%◌, ◌≤◌, ◌<◌}
 use borrow.Author.Tests.{leb-true, leb-false}
-use lib.Dec.{ltb, leb, eqb}
-use lib.ListN.{length}
 use Rattle.refusals.specs.declared.Refusal.{Refusal}
 use Rattle.refusals.specs.declared.Reason.TheVariants as reason
-use Rattle.refusals.specs.Verdict.{Verdict, refused, check, first_refusal}
+use Rattle.refusals.specs.Verdict.{Verdict, refused, first_refusal}
 use Rattle.refusals.proofs.Verdicts.{check_passed, check_refused, first_refused, then_refused, Never, never_check, never_then, never_first, skips}
 use Rattle.simplex.specs.Shape.{limit_of}
-use Rattle.simplex.specs.Limit.{total}
 use Rattle.layout.specs.declared.Shape.{Shape}
-use Rattle.reads.specs.Reads.{read_count, row, group, symbol, counts_of}
-use Rattle.reads.specs.Refusals.{name_refusal, packet_refusal, read_refusal, group_refusal, buffer_refusal, list_refusal}
+use Rattle.layout.specs.declared.PacketName.{PacketName}
+use Rattle.reads.specs.Reads.{Reads, reads_in, read_at, counts_of}
+use Rattle.reads.specs.Refusals.{length_refusal, name_refusal, packet_refusal, read_refusal, group_refusal, buffer_refusal, reads_refusal, list_refusal}
 use Rattle.reads.specs.Parts.{Named}
 use Rattle.reads.proofs.Accepted.{accepted_named}
 
-pub record Over (sh : Shape) (reads : List ℕ) (x : ℕ) : Type 0 where
-  pub named : Named sh reads
-  pub below : x < sh.m
-  pub many : limit_of sh.k < total (counts_of reads x)
-  pub lowest : (y : ℕ) → y < x → total (counts_of reads y) ≤ limit_of sh.k
+pub record Over (shape : Shape) (reads : Reads) (group : ℕ) : Type 0 where
+  pub named : Named shape reads
+  pub below : group < shape.m
+  pub many : limit_of shape.k < sum (counts_of reads group)
+  pub lowest : (lower : ℕ) → lower < group → sum (counts_of reads lower) ≤ limit_of shape.k
 
 -- no packet is refused with 12
-packet_never : (sh : Shape) (full : ℕ → Bool) (place row x i : ℕ) → Never reason.TooManyReads (packet_refusal sh full place row x i)
-packet_never sh full place row x i =
+packet_never : (shape : Shape) (full : ℕ → Bool) (place : ℕ) (name : PacketName) → Never reason.TooManyReads (packet_refusal shape full place name)
+packet_never shape full place name =
     let own = never_check reason.TooManyReads in
-    let in_row = own reason.NoSuchRow place (ltb row sh.g) (λ e. cc) in
-    let in_group = own reason.NoSuchGroup place (ltb x sh.m) (λ e. cc) in
-    let in_symbols = own reason.NoSuchSymbol place (ltb i sh.k) (λ e. cc) in
-    let is_full = own reason.EmptyRow place (full row) (λ e. cc) in
+    let in_row = own reason.NoSuchRow place (ltb name.row shape.g) (λ e. cc) in
+    let in_group = own reason.NoSuchGroup place (ltb name.group shape.m) (λ e. cc) in
+    let in_symbols = own reason.NoSuchSymbol place (ltb name.symbol shape.k) (λ e. cc) in
+    let is_full = own reason.EmptyRow place (full name.row) (λ e. cc) in
     let then_never = never_then reason.TooManyReads in
-    then_never (name_refusal sh place row x i) _ (then_never _ _ in_row (then_never _ _ in_group in_symbols)) is_full
+    then_never (name_refusal shape place name) _ (then_never _ _ in_row (then_never _ _ in_group in_symbols)) is_full
 
-module _ (sh : Shape) (full : ℕ → Bool) (reads : List ℕ) where
-  read_never : (n : ℕ) → Never reason.TooManyReads (read_refusal sh full reads n)
-  read_never n = packet_never sh full _ (row reads n) (group reads n) (symbol reads n)
-
-  groups_over : (x : ℕ) → Named sh reads → first_refusal (group_refusal sh reads) sh.m ≡ refused reason.TooManyReads x → Over sh reads x
-  groups_over x named e =
-      let r : Refusal = record { reason = reason.TooManyReads; place = x } in
-      let t = first_refused (group_refusal sh reads) sh.m r e in
-      let c = check_refused reason.TooManyReads t.0 (leb (total (counts_of reads t.0)) (limit_of sh.k)) r t.2 in
-      subst (Over sh reads) c.1 (record {
+module _ (shape : Shape) (full : ℕ → Bool) where
+  groups_over : (reads : Reads) (group : ℕ) → Named shape reads → first_refusal (group_refusal shape reads) shape.m ≡ refused reason.TooManyReads group
+      → Over shape reads group
+  groups_over reads group named e =
+      let r : Refusal = record { reason = reason.TooManyReads; place = group } in
+      let t = first_refused (group_refusal shape reads) shape.m r e in
+      let c = check_refused reason.TooManyReads t.0 (leb (sum (counts_of reads t.0)) (limit_of shape.k)) r t.2 in
+      subst (Over shape reads) c.1 (record {
         named = named;
         below = t.1;
         many = leb-false _ _ c.2;
-        lowest = λ y l. leb-true _ _ (check_passed reason.TooManyReads y _ (t.3 y l));
+        lowest = λ lower l. leb-true _ _ (check_passed reason.TooManyReads lower _ (t.3 lower l));
       })
 
-  pub over : (out schedule x : ℕ) → list_refusal sh full reads out schedule ≡ refused reason.TooManyReads x → Over sh reads x
-  unfolding list_refusal
-  over out schedule x e =
-      let whole : Bool = eqb (length reads % 3) 0 in
-      let fit : Bool = eqb out (read_count reads * sh.p) && eqb schedule (read_count reads * 2) in
-      let of_reads : Verdict = first_refusal (read_refusal sh full reads) (read_count reads) in
-      let of_groups : Verdict = first_refusal (group_refusal sh reads) sh.m in
-      let never = never_check reason.TooManyReads in
-      let past_length = skips reason.TooManyReads (check reason.ListLength 0 whole) _ x (never reason.ListLength 0 whole (λ z. cc)) e in
-      let past_reads = skips reason.TooManyReads of_reads _ x (never_first reason.TooManyReads _ (read_count reads) read_never) past_length.1 in
+  reads_over : (reads : Reads) (out schedule group : ℕ) → reads_refusal shape full reads out schedule ≡ refused reason.TooManyReads group
+      → Over shape reads group
+  reads_over reads out schedule group e =
+      let fit : Bool = eqb out (length reads * shape.p) && eqb schedule (length reads * 2) in
+      let of_reads : Verdict = first_refusal (read_refusal shape full reads) (length reads) in
+      let of_groups : Verdict = first_refusal (group_refusal shape reads) shape.m in
+      let never_read = never_first reason.TooManyReads (read_refusal shape full reads) (length reads) (λ n. packet_never shape full n (read_at reads n)) in
+      let past_reads = skips reason.TooManyReads of_reads _ group never_read e in
       ⊎_elim
-      (groups_over x (accepted_named sh full reads past_reads.0))
-      (λ r. absurd (never reason.BufferLengths 0 fit (λ z. cc) x r.1))
-      (then_refused of_groups (buffer_refusal sh reads out schedule) (record { reason = reason.TooManyReads; place = x }) past_reads.1)
+      (groups_over reads group (accepted_named shape full reads past_reads.0))
+      (λ r. absurd (never_check reason.TooManyReads reason.BufferLengths 0 fit (λ z. cc) group r.1))
+      (then_refused of_groups (buffer_refusal shape reads out schedule) (record { reason = reason.TooManyReads; place = group }) past_reads.1)
+
+  pub over : (list : List ℕ) (out schedule group : ℕ) → list_refusal shape full list out schedule ≡ refused reason.TooManyReads group
+      → Over shape (reads_in list) group
+  unfolding list_refusal
+  over list out schedule group e =
+      let whole : Bool = eqb (length list % 3) 0 in
+      let past_length = skips reason.TooManyReads (length_refusal list) _ group (never_check reason.TooManyReads reason.ListLength 0 whole (λ z. cc)) e in
+      reads_over (reads_in list) out schedule group past_length.1

@@ -1,52 +1,51 @@
--- The list of a read cycle: three bytes for each read (01: an ask), which are its row, its group and its symbol.
-use Rattle.std.specs.Prelude.{◌≡◌, Bool, cond, ◌&&◌, List, [], ◌∷◌, ◌++◌, ℕ, zero, suc, ◌+◌, ◌*◌, ◌/◌, ◌<◌, eqb, length, get_or}
-use Rattle.bits.specs.Marks.{how_many}
-use Rattle.simplex.specs.Shape.{most_symbols}
-use Rattle.table.specs.Grouped.{list_of}
+-- The reads of a cycle (customers say: asks). A list comes as bytes, three for each read: its row, its group and its symbol. It is cut into
+-- reads once, and is a list of reads from there on.
+use Rattle.std.specs.Prelude.{◌≡◌, Bool, ◌&&◌, List, [], ◌∷◌, map, ℕ, ◌<◌, ◌==◌, length, slice_index_or, count_by, filter}
+use Rattle.std.specs.List.{range_with_len}
+use Rattle.simplex.specs.declared.TheConstants.{MOST_SYMBOLS}
+use Rattle.layout.specs.declared.PacketName.{PacketName}
+use Rattle.layout.specs.Name.{name_of}
 
--- How many reads it holds.
-abbrev pub read_count : List ℕ → ℕ
-read_count reads = length reads / 3
+-- Each read by the packet that it names.
+abbrev pub Reads : Type 0
+Reads = List PacketName
 
--- Byte f of read n, and so its row, its group and its symbol.
-abbrev pub field : List ℕ → (n f : ℕ) → ℕ
-field reads n f = get_or reads (n * 3 + f) 0
+-- The reads of a list of bytes. What is left of fewer than three bytes is no read.
+abbrev pub reads_in : List ℕ → Reads
+reads_in [] = []
+reads_in (row ∷ []) = []
+reads_in (row ∷ group ∷ []) = []
+reads_in (row ∷ group ∷ symbol ∷ list) = name_of (row ∷ group ∷ symbol ∷ []) ∷ reads_in list
 
-abbrev pub row : List ℕ → ℕ → ℕ
-row reads n = field reads n 0
+-- The reads of a list that is cut into parts of three bytes.
+abbrev pub names_of : List (List ℕ) → Reads
+names_of parts = map name_of parts
 
-abbrev pub group : List ℕ → ℕ → ℕ
-group reads n = field reads n 1
+-- Read n, from 0; and what is given where a list has none.
+abbrev pub no_read : PacketName
+no_read = record { row = 0; group = 0; symbol = 0 }
 
-abbrev pub symbol : List ℕ → ℕ → ℕ
-symbol reads n = field reads n 2
+abbrev pub read_at : Reads → ℕ → PacketName
+read_at reads n = slice_index_or reads n no_read
 
--- Read n is for symbol i of group x, in whichever row.
-abbrev pub is_for : List ℕ → (x i n : ℕ) → Bool
-is_for reads x i n = eqb (group reads n) x && eqb (symbol reads n) i
+-- Whether a read is for this symbol of this group, in whichever row.
+abbrev pub is_for : (group symbol : ℕ) → PacketName → Bool
+is_for group symbol read = (read.group == group) && (read.symbol == symbol)
 
--- How many of the first n reads are for symbol i of group x. Equal reads count separately.
-abbrev pub count_of : List ℕ → (x i n : ℕ) → ℕ
-count_of reads x i n = how_many (is_for reads x i) n
+-- How many reads are for it. Equal reads count separately.
+abbrev pub count_of : Reads → (group symbol : ℕ) → ℕ
+count_of reads group symbol = count_by (is_for group symbol) reads
 
--- Which read n is, from 0, of those for its symbol of its group.
-abbrev pub ordinal : List ℕ → ℕ → ℕ
-ordinal reads n = count_of reads (group reads n) (symbol reads n) n
+-- The counts of a group, over the whole list and so over all rows.
+abbrev pub counts_of : Reads → (group : ℕ) → List ℕ
+counts_of reads group = map (count_of reads group) (range_with_len 0 MOST_SYMBOLS)
 
--- The counts of group x, over the whole list and so over all rows.
-abbrev pub counts_of : List ℕ → ℕ → List ℕ
-counts_of reads x = list_of (λ i. count_of reads x i (read_count reads)) 0 most_symbols
+-- The reads of a group, each by its symbol, in their order.
+abbrev pub symbols_read : Reads → (group : ℕ) → List ℕ
+symbols_read reads group = map (λ read. read.symbol) (filter (λ read. read.group == group) reads)
 
--- No two reads of group x are for the same symbol, in whichever rows they are (02: nobody collides).
-abbrev pub CollisionFreeIn : List ℕ → (x : ℕ) → Type 0
-CollisionFreeIn reads x =
-    (m n : ℕ) → m < n → n < read_count reads → group reads m ≡ x → group reads n ≡ x → symbol reads m ≡ symbol reads n → ⊥
-
--- The symbols of the first n reads of group x, in their order.
-unfoldable pub symbols_read : List ℕ → (x n : ℕ) → List ℕ
-symbols_read reads x zero = []
-symbols_read reads x (suc n) = symbols_read reads x n ++ cond (eqb (group reads n) x) (symbol reads n ∷ []) []
-
--- The reads of group x, each by its symbol.
-abbrev pub reads_in : List ℕ → ℕ → List ℕ
-reads_in reads x = symbols_read reads x (read_count reads)
+-- No two reads of a group are for the same symbol, in whichever rows they are (customers say: nobody collides).
+abbrev pub CollisionFreeIn : Reads → (group : ℕ) → Type 0
+CollisionFreeIn reads group =
+    (m n : ℕ) → m < n → n < length reads → (read_at reads m).group ≡ group → (read_at reads n).group ≡ group
+    → (read_at reads m).symbol ≡ (read_at reads n).symbol → ⊥

@@ -1,5 +1,5 @@
 -- How the refusal of an operation is said: a list of checks, of which the first that is not passed gives its reason and place.
-use Rattle.std.specs.Prelude.{Bool, true, false, ◌&&◌, ℕ, zero, suc, leb, Result, Ok, Err}
+use Rattle.std.specs.Prelude.{Bool, true, false, ◌&&◌, ℕ, zero, suc, nat_le, Result, Ok, Err}
 use Rattle.refusals.specs.declared.Refusal.{Refusal}
 use Rattle.refusals.specs.declared.Reason.{Reason}
 use Rattle.refusals.specs.declared.Reason.TheVariants as reason
@@ -40,7 +40,7 @@ number_of reason.StoreTooLarge = 20
 
 -- Whether n is from low to high.
 abbrev pub between : (low high n : ℕ) → Bool
-between low high n = leb low n && leb n high
+between low high n = nat_le low n && nat_le n high
 
 -- The refusal for this reason, at this place, unless the test is passed.
 abbrev pub check : (reason : Reason) (place : ℕ) → Bool → Verdict

@@ -1,4 +1,4 @@
-// How an operation says no: the reasons, a refusal with its place, and a check that gives it.
+// How an operation answers: what it says where it is accepted; where not, the reasons, a refusal with its place, and a check that gives it.
 #![tactic(auto)]
 
 ghost use Rattle.std.specs.Prelude.{◌≡◌};
@@ -39,6 +39,14 @@ pub struct Refusal {
     pub place: usize,
 }
 
+// What an accepted operation answers: the number of full rows, if it changes the state or the store; or that a read cycle is served.
+// No `Option<usize>`: "served" is an answer with a name of its own, and not the lack of one.
+#[derive(Clone, Copy, Debug, PartialEq, Eq)]
+pub enum Answer {
+    FullRows(usize),
+    Served,
+}
+
 // Accepted, or refused.
 pub type Verdict = Result<(), Refusal>;
 
@@ -59,6 +67,15 @@ impl fmt::Display for Refusal {
 }
 
 impl Error for Refusal {}
+
+impl fmt::Display for Answer {
+    fn fmt<W: fmt::Write>(&self, f: &mut fmt::Formatter<W>) -> fmt::Result {
+        match self {
+            Answer::FullRows(rows) => write!(f, "full rows {rows}"),
+            Answer::Served => write!(f, "served"),
+        }
+    }
+}
 
 // Refused for this reason, at this place.
 pub fn refused<T>(reason: Reason, place: usize) -> Result<T, Refusal>

@@ -8,11 +8,13 @@ use native.Mathlib.Numerals.{add-one}
 use lib.ListN.{length}
 use lib.Pow.{pow_mono}
 use Rattle.cells.specs.Cell.{cell}
-use Rattle.simplex.specs.Filling.{packets_of, spaced, Fillable}
+use Rattle.simplex.specs.Banks.{spaced}
+use Rattle.simplex.specs.Filling.{packets_of, Fillable}
 use Rattle.simplex.specs.Updating.{Updatable}
 use Rattle.layout.specs.declared.Shape.{Shape}
 use Rattle.layout.specs.Shape.{InRange, banks, store_size, CellOf, offset}
-use Rattle.rows.specs.Rows.{group_written, groups_written, PacketOf}
+use Rattle.layout.specs.Name.{PacketOf}
+use Rattle.rows.specs.Rows.{group_written, groups_written}
 use Rattle.layout.proofs.Places.{inside, offset_spaced}
 
 pub some_banks : (sh : Shape) → InRange sh → 3 ≤ banks sh
@@ -41,11 +43,11 @@ fillable sh x row w group below packets s size whole = record {
   last = last_fits sh x row w group below (length s) whole;
 }
 
-pub updatable : (sh : Shape) (x i row : ℕ) → InRange sh → PacketOf sh row x i → (packet s : List ℕ) → length s ≡ store_size sh
+pub updatable : (sh : Shape) (x i row : ℕ) → InRange sh → PacketOf sh (record { row = row; group = x; symbol = i }) → (packet s : List ℕ) → length s ≡ store_size sh
     → length packet ≡ sh.p → Updatable sh.k (length packet) i (offset sh x 1 row) (sh.g * sh.p) s
 updatable sh x i row w u packet s whole size = rw size (record {
   symbols = w.symbols;
-  symbol = u.symbol;
+  symbol_there = u.symbol;
   step_size = step_fits sh w;
   last = last_fits sh x row w u.group u.row (length s) whole;
 })

@@ -1,5 +1,5 @@
 -- An update of one packet: the cells that it changes, the generation that it edits, and that the two agree.
-use mathlib.Core.Path.{◌≡◌, sym, ap, ◌∙◌}
+use mathlib.Core.Path.{◌≡◌, refl, sym, ap, ◌∙◌}
 use mathlib.Core.Logic.{◌≢◌}
 use mathlib.Core.List.{List, []}
 use Prim.Native.Nat.{ℕ, ◌+◌, ◌*◌, ◌^◌, ◌≤◌, ◌<◌}
@@ -14,14 +14,16 @@ use Rattle.cells.proofs.Xors.{xor_back}
 use Rattle.cells.proofs.Cells.{length_put, length_cell, cell_put, cell_put_out}
 use Rattle.cells.proofs.Steps.{step_within, digits_same, multiples_apart}
 use Rattle.simplex.specs.Code.{bank_cell}
-use Rattle.simplex.specs.Filling.{spaced, Room}
+use Rattle.simplex.specs.Banks.{spaced, Room}
 use Rattle.simplex.specs.Updating.{symbol_updated}
+use Rattle.simplex.proofs.Setting.{cell_kept}
 use Rattle.simplex.proofs.Filling.{length_packets, filled_holds}
 use Rattle.simplex.proofs.Updating as banks-updated
 use Rattle.layout.specs.declared.Shape.{Shape}
 use Rattle.layout.specs.Shape.{banks, store_size, generation_size, CellOf, offset, cell_at}
 use Rattle.layout.proofs.Places.{inside, apart, offset_spaced, room}
-use Rattle.rows.specs.Rows.{packets_in, packet_in, group_written, PacketOf, packet_updated, edited}
+use Rattle.layout.specs.Name.{PacketOf}
+use Rattle.rows.specs.Rows.{packets_in, packet_in, group_written, packet_updated, edited}
 use Rattle.rows.specs.Laws.{Updated, Edited}
 use Rattle.rows.proofs.Writing.{packet_in_lem, packets_in_sized}
 
@@ -72,7 +74,7 @@ module _ (sh : Shape) (generation : List ℕ) (x i : ℕ) (packet : List ℕ) (g
 
 -- ---- the store
 
-module _ (sh : Shape) (row x i : ℕ) (packet s : List ℕ) (u : PacketOf sh row x i) (size : length s ≡ store_size sh)
+module _ (sh : Shape) (row x i : ℕ) (packet s : List ℕ) (u : PacketOf sh (record { row = row; group = x; symbol = i })) (size : length s ≡ store_size sh)
     (bytes : length packet ≡ sh.p) where
   abbrev place : ℕ → ℕ
   place b = offset sh x b row
@@ -109,8 +111,8 @@ module _ (sh : Shape) (row x i : ℕ) (packet s : List ℕ) (u : PacketOf sh row
   -- the cells of other groups and other rows are as they were
   pub cells_kept : (y b r : ℕ) → CellOf sh y b r → ((y ≡ x) × (r ≡ row) → ⊥) → cell_at sh after y b r ≡ cell_at sh s y b r
   cells_kept y b r c ne =
-      banks-updated.updated_apart sh.p i packet place (banks sh) s bytes systematic its_room (offset sh y b r)
-      (rw size (inside sh y b r c)) (λ d l h. apart sh y b r x d row c (of_row d l h) (λ e. ne (e.0, e.2)))
+      cell_kept (banks-updated.updated sh.p i packet place (banks sh) s bytes systematic its_room) (offset sh y b r) (rw size (inside sh y b r c))
+      (λ d l h on. apart sh y b r x d row c (of_row d l h) (λ e. ne (e.0, e.2)))
 
   module _ (generation : List ℕ) (whole : length generation ≡ generation_size sh) where
     abbrev new : List ℕ
@@ -135,7 +137,7 @@ module _ (sh : Shape) (row x i : ℕ) (packet s : List ℕ) (u : PacketOf sh row
         go : Dec (y ≡ x) → cell_at sh after y b row ≡ bank_cell sh.p (packets_in sh new y) b
         go (yes e) =
             rw e (ap (λ (t : List ℕ). cell_at sh t x b row) (fresh (cells x))
-            ∙ (filled_holds sh.p (packets_in sh new x) place (packets_in_sized sh new x u.group len) (banks sh) s its_room).banks b c.first c.last)
+            ∙ (filled_holds sh.p (packets_in sh new x) place (packets_in_sized sh new x u.group len) (banks sh) s its_room).banks b c.first c.last refl)
         go (no n) =
             rw (other_groups sh generation x i packet u.group u.symbol bytes whole y c.group n)
             (cells_kept y b row c (λ e. n e.0) ∙ cells y b c)

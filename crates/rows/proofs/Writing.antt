@@ -1,6 +1,7 @@
 -- What a written row holds: in each group the cells of that group's packets. Every other byte, and so every other row, is as it was.
 use mathlib.Core.Path.{◌≡◌, refl, ap, ◌∙◌}
 use mathlib.Core.Logic.{◌≢◌, ⊎_elim}
+use mathlib.Core.Bool.{true}
 use mathlib.Core.List.{List, []}
 use Prim.Native.Nat.{ℕ, zero, suc, ◌+◌, ◌*◌, ◌≤◌, ◌<◌}
 use native.Mathlib.Nat.{le_of_suc-le-suc, le_refl, eq-or-lt_of_le}
@@ -10,8 +11,10 @@ use Rattle.cells.specs.Cell.{cell}
 use Rattle.cells.proofs.Cells.{length_cell, cell_cell}
 use Rattle.cells.proofs.Steps.{step_within}
 use Rattle.simplex.specs.Code.{Packet, Sized, bank_cell}
-use Rattle.simplex.specs.Filling.{filled, spaced, Holds}
-use Rattle.simplex.proofs.Filling.{packet_at, packets_sized, length_filled, filled_same, filled_apart, filled_holds}
+use Rattle.simplex.specs.Banks.{spaced, BanksSet}
+use Rattle.simplex.specs.Filling.{filled}
+use Rattle.simplex.proofs.Setting.{length_each, each_same, cell_kept}
+use Rattle.simplex.proofs.Filling.{packet_at, packets_sized, filled_holds}
 use Rattle.layout.specs.declared.Shape.{Shape}
 use Rattle.layout.specs.Shape.{banks, store_size, generation_size, CellOf, offset, cell_at}
 use Rattle.rows.specs.Rows.{packets_in, group_written, groups_written, row_written}
@@ -47,14 +50,14 @@ packets_in_sized sh generation x h whole =
 pub group_spaced : (sh : Shape) (x row : ℕ) (packets : List Packet) (s : List ℕ)
     → group_written sh x row packets s ≡ filled sh.p packets (spaced (offset sh x 1 row) (sh.g * sh.p)) (banks sh) s
 group_spaced sh x row packets s =
-    filled_same sh.p packets (λ b. offset sh x b row) (spaced (offset sh x 1 row) (sh.g * sh.p)) (banks sh) s
-    (λ b l u. offset_spaced sh x b row l)
+    each_same (λ b. true) (bank_cell sh.p packets) (λ b. offset sh x b row) (bank_cell sh.p packets) (spaced (offset sh x 1 row) (sh.g * sh.p)) (banks sh) s
+    (λ b l u. (offset_spaced sh x b row l, refl))
 
 length_groups : (sh : Shape) (row : ℕ) (generation : List ℕ) (n : ℕ) (s : List ℕ) → length (groups_written sh row generation n s) ≡ length s
 unfolding groups_written
 length_groups sh row generation zero s = refl
 length_groups sh row generation (suc x) s =
-    length_filled sh.p (packets_in sh generation x) (λ b. offset sh x b row) (banks sh) (groups_written sh row generation x s)
+    length_each (λ b. true) (bank_cell sh.p (packets_in sh generation x)) (λ b. offset sh x b row) (banks sh) (groups_written sh row generation x s)
     ∙ length_groups sh row generation x s
 
 module _ (sh : Shape) (row : ℕ) (generation s : List ℕ) where
@@ -69,7 +72,8 @@ module _ (sh : Shape) (row : ℕ) (generation s : List ℕ) where
     of_row : (x b : ℕ) → x < sh.m → 1 ≤ b → b ≤ banks sh → CellOf sh x b row
     of_row x b h l u = record { group = h; first = l; last = u; row = in-shape }
 
-    group_holds : (n : ℕ) → n < sh.m → Holds sh.p (packets_in sh generation n) (λ b. offset sh n b row) (banks sh) (after n) (after (suc n))
+    group_holds : (n : ℕ) → n < sh.m
+        → BanksSet sh.p (λ b. true) (bank_cell sh.p (packets_in sh generation n)) (λ b. offset sh n b row) (banks sh) (after n) (after (suc n))
     unfolding groups_written
     group_holds n h =
         filled_holds sh.p (packets_in sh generation n) (λ b. offset sh n b row) (packets_in_sized sh generation n h whole) (banks sh) (after n)
@@ -78,17 +82,16 @@ module _ (sh : Shape) (row : ℕ) (generation s : List ℕ) where
     -- group n leaves the cells of other groups and other rows as they were
     group_keeps : (n : ℕ) → n < sh.m → (x b r : ℕ) → CellOf sh x b r → ((x ≡ n) × (r ≡ row) → ⊥)
         → cell_at sh (after (suc n)) x b r ≡ cell_at sh (after n) x b r
-    unfolding groups_written
     group_keeps n h x b r c ne =
-        filled_apart sh.p (packets_in sh generation n) (λ b. offset sh n b row) (packets_in_sized sh generation n h whole) (banks sh) (after n)
-        (offset sh x b r) (λ d l u. apart sh x b r n d row c (of_row n d h l u) (λ e. ne (e.0, e.2))) (rw (after_size n) (inside sh x b r c))
+        cell_kept (group_holds n h) (offset sh x b r) (rw (after_size n) (inside sh x b r c))
+        (λ d l u on. apart sh x b r n d row c (of_row n d h l u) (λ e. ne (e.0, e.2)))
 
     groups_hold : (n : ℕ) → n ≤ sh.m → (x b : ℕ) → x < n → CellOf sh x b row
         → cell_at sh (after n) x b row ≡ bank_cell sh.p (packets_in sh generation x) b
     groups_hold zero h x b l c = absurd (omega arith)
     groups_hold (suc n) h x b l c =
         ⊎_elim
-        (λ (e : x ≡ n). rw e ((group_holds n h).banks b c.first c.last))
+        (λ (e : x ≡ n). rw e ((group_holds n h).banks b c.first c.last refl))
         (λ (m : x < n). group_keeps n h x b row c (λ e. omega arith) ∙ groups_hold n (omega arith) x b m c)
         (eq-or-lt_of_le (le_of_suc-le-suc l))
 
@@ -96,7 +99,7 @@ module _ (sh : Shape) (row : ℕ) (generation s : List ℕ) where
     unfolding groups_written
     groups_others zero h i out = refl
     groups_others (suc n) h i out =
-        (group_holds n h).others i (λ b l u. out n b (of_row n b h l u)) ∙ groups_others n (omega arith) i out
+        (group_holds n h).others i (λ b l u on. out n b (of_row n b h l u)) ∙ groups_others n (omega arith) i out
 
     groups_rows : (n : ℕ) → n ≤ sh.m → (x b r : ℕ) → CellOf sh x b r → r ≢ row → cell_at sh (after n) x b r ≡ cell_at sh s x b r
     unfolding groups_written

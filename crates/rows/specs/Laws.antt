@@ -1,55 +1,72 @@
 -- The laws of a row in a store, for any shape, store and generation.
-use Rattle.std.specs.Prelude.{◌≡◌, true, List, [], ℕ, ◌^◌, ◌<◌, length, get_or}
+use Rattle.std.specs.Prelude.{◌≡◌, true, List, [], ℕ, ◌^◌, ◌<◌, length, slice_index, slice_index_or}
 use Rattle.cells.specs.Cell.{Outside}
 use Rattle.cells.specs.Xor.{xor_bytes}
 use Rattle.simplex.specs.Code.{bank_cell}
 use Rattle.simplex.specs.Symbols.{has_symbol}
 use Rattle.layout.specs.declared.Shape.{Shape}
 use Rattle.layout.specs.Shape.{store_size, generation_size, CellOf, offset, cell_at}
-use Rattle.rows.specs.Rows.{packets_in, packet_in, group_written, row_written, PacketOf, packet_updated, edited}
+use Rattle.layout.specs.Name.{PacketOf}
+use Rattle.rows.specs.Rows.{packets_in, packet_in, group_written, row_written, packet_updated, edited}
 
--- The byte i of the store lies in no cell of this row.
-abbrev pub OutsideRow : Shape → (row i : ℕ) → Type 0
-OutsideRow sh row i = (x b : ℕ) → CellOf sh x b row → Outside sh.p (offset sh x b row) i
+-- This byte of the store lies in no cell of the row.
+abbrev pub OutsideRow : Shape → (row byte : ℕ) → Type 0
+OutsideRow shape row byte = (group b : ℕ) → CellOf shape group b row → Outside shape.p (offset shape group b row) byte
 
--- Of a store s and the store after a generation was written to a row: each cell of the row, in all groups, is what the code puts there for the
--- generation's packets, and every other byte is as it was.
-pub record Written (sh : Shape) (row : ℕ) (generation s after : List ℕ) : Type 0 where
-  pub size : length after ≡ length s
-  pub cells : (x b : ℕ) → CellOf sh x b row → cell_at sh after x b row ≡ bank_cell sh.p (packets_in sh generation x) b
-  pub others : (i : ℕ) → OutsideRow sh row i → get_or after i 0 ≡ get_or s i 0
+-- It lies in no cell that an update of the symbol's packet sets.
+abbrev pub OutsideUpdated : Shape → (row group symbol byte : ℕ) → Type 0
+OutsideUpdated shape row group symbol byte =
+    (b : ℕ) → CellOf shape group b row → has_symbol b symbol ≡ true → Outside shape.p (offset shape group b row) byte
 
--- Of a store s and the store after an update of packet i of group x in a row, whatever the store held: into the cell of each bank of the group that holds
--- symbol i, in that row, the old packet and the new one are XORed, and every other byte is as it was.
-pub record Updated (sh : Shape) (row x i : ℕ) (packet s after : List ℕ) : Type 0 where
-  pub size : length after ≡ length s
-  pub cells : (b : ℕ) → CellOf sh x b row → has_symbol b i ≡ true
-      → cell_at sh after x b row ≡ xor_bytes (cell_at sh s x b row) (xor_bytes (cell_at sh s x (2 ^ i) row) packet)
-  pub systematic : cell_at sh after x (2 ^ i) row ≡ packet
-  pub others : (n : ℕ) → ((b : ℕ) → CellOf sh x b row → has_symbol b i ≡ true → Outside sh.p (offset sh x b row) n) → get_or after n 0 ≡ get_or s n 0
+-- Each bank of the group has in the row what the code puts there for a generation.
+abbrev pub GroupHeld : Shape → (row group : ℕ) → (generation store : List ℕ) → Type 0
+GroupHeld shape row group generation store =
+    (b : ℕ) → CellOf shape group b row → cell_at shape store group b row ≡ bank_cell shape.p (packets_in shape generation group) b
 
--- A generation with packet i of group x edited: it has the new packet there, and every other packet as it was.
-pub record Edited (sh : Shape) (x i : ℕ) (packet before after : List ℕ) : Type 0 where
+-- Of a store and the store after a generation was written to a row: each cell of the row, in all groups, is what the code puts there for
+-- the generation's packets, and every other byte is as it was.
+pub record Written (shape : Shape) (row : ℕ) (generation store after : List ℕ) : Type 0 where
+  pub size : length after ≡ length store
+  pub cells : (group b : ℕ) → CellOf shape group b row
+      → cell_at shape after group b row ≡ bank_cell shape.p (packets_in shape generation group) b
+  pub others : (byte : ℕ) → OutsideRow shape row byte → slice_index after byte ≡ slice_index store byte
+
+-- Of a store and the store after an update of the packet of a symbol of a group in a row, whatever the store held: into the cell of each
+-- bank of the group that holds the symbol, in that row, the old packet and the new one are XORed, and every other byte is as it was.
+pub record Updated (shape : Shape) (row group symbol : ℕ) (packet store after : List ℕ) : Type 0 where
+  pub size : length after ≡ length store
+  pub cells : (b : ℕ) → CellOf shape group b row → has_symbol b symbol ≡ true → cell_at shape after group b row
+      ≡ xor_bytes (cell_at shape store group b row) (xor_bytes (cell_at shape store group (2 ^ symbol) row) packet)
+  pub systematic : cell_at shape after group (2 ^ symbol) row ≡ packet
+  pub others : (byte : ℕ) → OutsideUpdated shape row group symbol byte → slice_index after byte ≡ slice_index store byte
+
+-- A generation with the packet of a symbol of a group edited: it has the new packet there, and every other packet as it was.
+pub record Edited (shape : Shape) (group symbol : ℕ) (packet before after : List ℕ) : Type 0 where
   pub size : length after ≡ length before
-  pub itself : packet_in sh after x i ≡ packet
-  pub others : (y j : ℕ) → y < sh.m → j < sh.k → ((y ≡ x) × (j ≡ i) → ⊥) → packet_in sh after y j ≡ packet_in sh before y j
+  pub itself : packet_in shape after group symbol ≡ packet
+  pub others : (y j : ℕ) → y < shape.m → j < shape.k → ((y ≡ group) × (j ≡ symbol) → ⊥)
+      → packet_in shape after y j ≡ packet_in shape before y j
 
--- packets: packet i of group x stands where a generation with the packets of group 0 in symbol order, then group 1, and so on, has it.
+-- packets: a packet of a group stands where a generation with the packets of group 0 in symbol order, then group 1, and so on, has it.
 -- written: a generation written to a row sets the cells of that row alone.
--- updated: an update changes the cells of its group's banks that hold the symbol, in that row, alone. editing: an edited generation has the new packet in its
--- place, and every other packet as it was.
--- fresh: where the group's cells in that row are what the code puts there for a generation, the store after the update is the store after the group was
--- written afresh with its packets of the edited generation.
+-- updated: an update changes the cells of its group's banks that hold the symbol, in that row, alone. editing: an edited generation has the
+-- new packet in its place, and every other packet as it was.
+-- fresh: where the group's cells in that row are what the code puts there for a generation, the store after the update is the store after
+-- the group was written afresh with its packets of the edited generation.
 pub record TheRows : Type 0 where
-  pub packets : (sh : Shape) (generation : List ℕ) (x i : ℕ) → i < sh.k
-      → get_or (packets_in sh generation x) i [] ≡ packet_in sh generation x i
-  pub written : (sh : Shape) (row : ℕ) (generation s : List ℕ) → row < sh.g → length s ≡ store_size sh → length generation ≡ generation_size sh
-      → Written sh row generation s (row_written sh row generation s)
-  pub updated : (sh : Shape) (row x i : ℕ) (packet s : List ℕ) → PacketOf sh row x i → length s ≡ store_size sh → length packet ≡ sh.p
-      → Updated sh row x i packet s (packet_updated sh row x i packet s)
-  pub editing : (sh : Shape) (generation : List ℕ) (x i : ℕ) (packet : List ℕ) → x < sh.m → i < sh.k → length packet ≡ sh.p
-      → length generation ≡ generation_size sh → Edited sh x i packet generation (edited sh generation x i packet)
-  pub fresh : (sh : Shape) (row x i : ℕ) (packet s generation : List ℕ) → PacketOf sh row x i → length s ≡ store_size sh → length packet ≡ sh.p
-      → length generation ≡ generation_size sh
-      → ((b : ℕ) → CellOf sh x b row → cell_at sh s x b row ≡ bank_cell sh.p (packets_in sh generation x) b)
-      → packet_updated sh row x i packet s ≡ group_written sh x row (packets_in sh (edited sh generation x i packet) x) s
+  pub packets : (shape : Shape) (generation : List ℕ) (group symbol : ℕ) → symbol < shape.k
+      → slice_index_or (packets_in shape generation group) symbol [] ≡ packet_in shape generation group symbol
+  pub written : (shape : Shape) (row : ℕ) (generation store : List ℕ) → row < shape.g → length store ≡ store_size shape
+      → length generation ≡ generation_size shape → Written shape row generation store (row_written shape row generation store)
+  pub updated : (shape : Shape) (row group symbol : ℕ) (packet store : List ℕ)
+      → PacketOf shape (record { row = row; group = group; symbol = symbol })
+      → length store ≡ store_size shape → length packet ≡ shape.p
+      → Updated shape row group symbol packet store (packet_updated shape row group symbol packet store)
+  pub editing : (shape : Shape) (generation : List ℕ) (group symbol : ℕ) (packet : List ℕ) → group < shape.m → symbol < shape.k
+      → length packet ≡ shape.p → length generation ≡ generation_size shape
+      → Edited shape group symbol packet generation (edited shape generation group symbol packet)
+  pub fresh : (shape : Shape) (row group symbol : ℕ) (packet store generation : List ℕ)
+      → PacketOf shape (record { row = row; group = group; symbol = symbol })
+      → length store ≡ store_size shape → length packet ≡ shape.p → length generation ≡ generation_size shape
+      → GroupHeld shape row group generation store → packet_updated shape row group symbol packet store
+      ≡ group_written shape group row (packets_in shape (edited shape generation group symbol packet) group) store

@@ -15,32 +15,34 @@ use Rattle.bits.proofs.Digits.{low_lt}
 use Rattle.cells.proofs.Xors.{same_bytes}
 use Rattle.simplex.specs.Shape.{banks_of, limit_of, degree_of}
 use Rattle.simplex.specs.Code.{Banks, xor_of_banks, Yields}
-use Rattle.simplex.specs.Limit.{reads_of, In, DisjointSets, Fails, TheLimit, LimitOfReads}
+use Rattle.std.specs.List.{Contains}
+use Rattle.simplex.specs.Limit.{reads_of, DisjointSets, Fails, TheLimit, LimitOfReads}
 use Rattle.simplex.proofs.Parity.{all_ones, all_ones_content, cell_parity, odd_half, pow_less}
 use Rattle.simplex.proofs.Pigeon.{pigeon}
+use Rattle.simplex.proofs.Contained.{contains_first, contains_other}
 use Rattle.simplex.proofs.Requests.{length_reads}
 
 -- a bank of odd degree in the set
 abbrev Odd : Banks → Type 0
-Odd banks = (b : ℕ) × In b banks × (degree_of b % 2 ≡ 1)
+Odd banks = (b : ℕ) × Contains banks b × (degree_of b % 2 ≡ 1)
 
 -- the XOR of the set is zeros where every byte is 1
 abbrev Blank : (K P : ℕ) → Banks → Type 0
 Blank K P banks = xor_of_banks P (all_ones K P) banks ≡ zeros P
 
-odd_or_blank : (K P : ℕ) (banks : Banks) → ((b : ℕ) → In b banks → b < 2 ^ K) → Odd banks ⊎ Blank K P banks
+odd_or_blank : (K P : ℕ) (banks : Banks) → ((b : ℕ) → Contains banks b → b < 2 ^ K) → Odd banks ⊎ Blank K P banks
 odd_or_blank K P [] h = inr refl
 odd_or_blank K P (b ∷ banks) h =
-    go (degree_of b % 2) refl (low_lt (degree_of b)) (odd_or_blank K P banks (λ x i. h x (inr i)))
+    go (degree_of b % 2) refl (low_lt (degree_of b)) (odd_or_blank K P banks (λ x i. h x (contains_other b banks x i)))
   where
     go : (d : ℕ) → degree_of b % 2 ≡ d → d < 2 → Odd banks ⊎ Blank K P banks → Odd (b ∷ banks) ⊎ Blank K P (b ∷ banks)
-    go zero e l (inl o) = inl (o.0, inr o.1, o.2)
-    go zero e l (inr z) = inr (ap₂ xor_bytes (cell_parity K P b (h b (inl refl)) ∙ ap (replicate P) e) z ∙ same_bytes P 0 0)
-    go (suc zero) e l r = inl (b, inl refl, e)
+    go zero e l (inl o) = inl (o.0, contains_other b banks o.0 o.1, o.2)
+    go zero e l (inr z) = inr (ap₂ xor_bytes (cell_parity K P b (h b (contains_first b banks)) ∙ ap (replicate P) e) z ∙ same_bytes P 0 0)
+    go (suc zero) e l r = inl (b, contains_first b banks, e)
     go (suc (suc d)) e l r = absurd (not-suc-le-zero (le_of_suc-le-suc (le_of_suc-le-suc l)))
 
 -- of the first m sets one is blank, or each has a bank of odd degree
-scan : (K P : ℕ) (sets : List Banks) → ((j b : ℕ) → In b (get_or sets j []) → b < 2 ^ K) → (m : ℕ)
+scan : (K P : ℕ) (sets : List Banks) → ((j b : ℕ) → Contains (get_or sets j []) b → b < 2 ^ K) → (m : ℕ)
     → ((j : ℕ) × (j < m) × Blank K P (get_or sets j [])) ⊎ ((j : ℕ) → j < m → Odd (get_or sets j []))
 scan K P sets h zero = inr (λ j l. absurd (not-suc-le-zero l))
 scan K P sets h (suc m) = go (scan K P sets h m) (odd_or_blank K P (get_or sets m []) (h m))
@@ -63,7 +65,7 @@ blank : (K P : ℕ) (reads : List ℕ) (sets : List Banks) → limit_of K < leng
     → (j : ℕ) × (j < length reads) × Blank K P (get_or sets j [])
 blank K P reads sets many d = ⊎_elim (λ t. t) (λ odd. absurd (contra odd)) (scan K P sets below (length reads))
   where
-    below : (j b : ℕ) → In b (get_or sets j []) → b < 2 ^ K
+    below : (j b : ℕ) → Contains (get_or sets j []) b → b < 2 ^ K
     below j b i = omega (arith, d.of_group j b i, pow_pos K)
 
     contra : ((j : ℕ) → j < length reads → Odd (get_or sets j [])) → ⊥
@@ -72,7 +74,7 @@ blank K P reads sets many d = ⊎_elim (λ t. t) (λ odd. absurd (contra odd)) (
         pigeon (limit_of K) (length reads) (λ j h. (odd j h).0 / 2)
         (λ j h. let g = d.of_group j (odd j h).0 (odd j h).1 in half_below K (odd j h).0 g.1 g.0)
         (λ i j h l lt e. d.disjoint i j (odd i h).0 lt (odd i h).1
-        (subst (λ (b : ℕ). In b (get_or sets j [])) (sym (odd_half (odd i h).0 (odd j l).0 (odd i h).2 (odd j l).2 e)) (odd j l).1)) in
+        (subst (λ (b : ℕ). Contains (get_or sets j []) b) (sym (odd_half (odd i h).0 (odd j l).0 (odd i h).2 (odd j l).2 e)) (odd j l).1)) in
         omega arith
 
 -- where every byte is 1 no packet is zeros, nor is what stands past the last

@@ -9,23 +9,25 @@ use native.Mathlib.Omega.{arith}
 use borrow.Author.Tests.{eq-eqb, eqb-true, eqb-false}
 use lib.Bits.{bit_xor, xor_shifted, xor_comm}
 use lib.Count.{ones_cat, ones-ones}
+use lib.Dec.{eqb}
 use lib.ListN.{length, get_or}
 use lib.Pow.{pow_pos, pow_mono}
 use Rattle.std.proofs.lemmas.Nat.{leading_top, ones_le_self, zero_from_ones}
+use Rattle.std.proofs.lemmas.Nat.Bits.{bit_at_above}
 use Rattle.std.specs.Int.{is_power_of_two}
 use Rattle.bits.specs.Bits.{bit}
-use Rattle.bits.proofs.Bits.{below_power, bit_top}
-use Rattle.bits.proofs.Marks.{toggled_other}
+use Rattle.bits.proofs.Bits.{below_power, bit_top, bit_other}
 use Rattle.bits.proofs.Sets.{lt_none}
 use Rattle.cells.specs.Cell.{cell, put}
 use Rattle.cells.specs.Xor.{xor_bytes}
 use Rattle.simplex.specs.Shape.{banks_of, degree_of}
 use Rattle.simplex.specs.Symbols.{has_symbol, last_of, highest_of, without_highest}
 use Rattle.simplex.specs.Code.{Packet, Sized, bank_cell}
-use Rattle.simplex.specs.Filling.{packets_of, filled, Room}
-use Rattle.simplex.specs.Running.{running_step}
+use Rattle.simplex.specs.Banks.{Room}
+use Rattle.simplex.specs.Filling.{packets_of, filled, running_step}
 use Rattle.simplex.proofs.Banks.{linear, cell_one}
-use Rattle.simplex.proofs.Filling.{length_packets, packet_at, packets_sized, fewer, filled_more, filled_bank}
+use Rattle.simplex.proofs.Setting.{fewer}
+use Rattle.simplex.proofs.Filling.{length_packets, packet_at, packets_sized, filled_more, filled_holds}
 
 -- ---- the highest symbol
 
@@ -84,7 +86,9 @@ module _ (b : ℕ) (some : 1 ≤ b) where
   pub rest_held : (has_symbol (without_highest b) (highest_of b) ≡ false) × ((i : ℕ) → i ≢ highest_of b → has_symbol (without_highest b) i ≡ has_symbol b i)
   rest_held = (
     lt_none (without_highest b) (highest_of b) rest_below (highest_of b) (le_refl (highest_of b)),
-    λ i other. sym (toggled_other (without_highest b) (highest_of b) i (λ e. other (sym e))) ∙ ap (λ (n : ℕ). has_symbol n i) top,
+    λ i other. let sum : without_highest b + 2 ^ highest_of b ≡ b = omega (arith, rest_more) in
+        let low = bit_at_above (without_highest b) (highest_of b) (highest_of b) rest_below (le_refl (highest_of b)) in
+        ap (λ (d : ℕ). eqb d 1) (sym (bit_other (without_highest b) (highest_of b) i low other) ∙ ap (λ (n : ℕ). bit n i) sum),
   )
 
   -- what the code puts into it
@@ -156,7 +160,7 @@ module _ (K P : ℕ) (packets : List ℕ) (fits : K * P ≤ length packets) wher
       let some = (some_rest b two).0 in
       let l = symbol_below b some K most in
       let before : without_highest b ≤ b - 1 = omega (arith, (lower b two).1) in
-      let source = filled_bank P group place sized (b - 1) s (fewer (b - 1) (omega arith) room) (without_highest b) (lower b two).0 before in
+      let source = (filled_holds P group place sized (b - 1) s (fewer (b - 1) (omega arith) room)).banks (without_highest b) (lower b two).0 before refl in
       ap (put (filled P group place (b - 1) s) (place b))
       (ap₂ xor_bytes source (packet (highest_of b) l) ∙ bank_top b some P group (in_group (highest_of b) l) sized)
       ∙ filled_more P group place b s some

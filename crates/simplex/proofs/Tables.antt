@@ -6,7 +6,8 @@ use native.Mathlib.Omega.{arith}
 use lib.Dec.{T}
 use lib.Pow.{pow_mono}
 use Rattle.simplex.specs.declared.Group.{Group}
-use Rattle.simplex.specs.Shape.{most_symbols, banks_of, limit_of, most_pairs, group_of}
+use Rattle.simplex.specs.declared.TheConstants.{MOST_SYMBOLS, MOST_PAIRS}
+use Rattle.simplex.specs.Shape.{banks_of, limit_of, group_of}
 
 pub and_left : (a b : Bool) → T (a && b) → T a
 and_left true b t = tt
@@ -18,8 +19,8 @@ and_right false b t = absurd t
 
 -- ---- the fixed table
 
-pub limit_most : (K : ℕ) → K ≤ most_symbols → limit_of K ≤ most_pairs
-limit_most K h = pow_mono {i = K - 1} {j = most_symbols - 1} (omega arith)
+pub limit_most : (K : ℕ) → K ≤ MOST_SYMBOLS → limit_of K ≤ MOST_PAIRS
+limit_most K h = pow_mono {i = K - 1} {j = MOST_SYMBOLS - 1} (omega arith)
 
 pub banks_of_lem : (K : ℕ) {row : Group} → row ≡ group_of K → row.banks ≡ banks_of K
 banks_of_lem K e = ap (λ (g : Group). g.banks) e

@@ -1,6 +1,6 @@
 -- The limit is met at K = 2: the first read gets its systematic bank alone, and the banks that are left serve the second.
 use mathlib.Core.Path.{◌≡◌, refl, sym, subst}
-use mathlib.Core.Logic.{◌≢◌, inl, inr}
+use mathlib.Core.Logic.{◌≢◌, ⊎_elim}
 use mathlib.Core.Bool.{Bool, true, not, ◌&&◌}
 use mathlib.Core.List.{List, [], ◌∷◌}
 use Prim.Native.Nat.{ℕ, zero, suc, ◌^◌, ◌≤◌, ◌<◌}
@@ -11,8 +11,10 @@ use lib.Dec.{T, lit<, leb, eqb, leb→le}
 use lib.Pow.{pow_pos, pow-lt}
 use lib.ListN.{get_or}
 use Rattle.simplex.specs.Code.{Banks, xor_of_numbers, Yields}
-use Rattle.simplex.specs.Limit.{reads_of, In, Servable, LimitMet}
+use Rattle.std.specs.List.{Contains}
+use Rattle.simplex.specs.Limit.{reads_of, Servable, LimitMet}
 use Rattle.simplex.proofs.Banks.{yields}
+use Rattle.simplex.proofs.Contained.{contains_none, contains_cases, contains_one}
 use Rattle.simplex.proofs.Tables.{and_left, and_right}
 
 -- banks of a group of two symbols, and not bank x: by a test
@@ -31,10 +33,11 @@ fits_range x b t =
       λ e. subst (λ (q : Bool). T (not q)) (eq-eqb x b e) (and_right (leb b 3) (not (eqb x b)) u),
     )
 
-without_in : (x : ℕ) (banks : Banks) → T (without x banks) → (b : ℕ) → In b banks → (1 ≤ b) × (b ≤ 3) × (x ≢ b)
-without_in x [] t b i = absurd i
-without_in x (c ∷ banks) t b (inl e) = rw e (fits_range x c (and_left (fits x c) (without x banks) t))
-without_in x (c ∷ banks) t b (inr i) = without_in x banks (and_right (fits x c) (without x banks) t) b i
+without_in : (x : ℕ) (banks : Banks) → T (without x banks) → (b : ℕ) → Contains banks b → (1 ≤ b) × (b ≤ 3) × (x ≢ b)
+without_in x [] t b i = absurd (contains_none b i)
+without_in x (c ∷ banks) t b i =
+    ⊎_elim (λ (e : b ≡ c). rw e (fits_range x c (and_left (fits x c) (without x banks) t)))
+    (λ (o : Contains banks b). without_in x banks (and_right (fits x c) (without x banks) t) b o) (contains_cases c banks b i)
 
 -- the reads of symbols x and y: the first by its systematic bank, the second by the banks of t
 two_sets : (P x y : ℕ) (t : Banks) → x < 2 → y < 2 → T (without (2 ^ x) t) → xor_of_numbers t ≡ 2 ^ y → Servable 2 P (x ∷ y ∷ [])
@@ -43,18 +46,19 @@ two_sets P x y t hx hy ok e = record { sets = sets; served = record { apart = re
     sets : List Banks
     sets = (2 ^ x ∷ []) ∷ t ∷ []
 
-    group : (j b : ℕ) → In b (get_or sets j []) → (1 ≤ b) × (b ≤ 3)
-    group zero b (inl d) = let below : 2 ^ x < 2 ^ 2 = pow-lt hx in (omega (arith, pow_pos x), omega arith)
-    group zero b (inr i) = absurd i
+    group : (j b : ℕ) → Contains (get_or sets j []) b → (1 ≤ b) × (b ≤ 3)
+    group zero b i =
+        let is : b ≡ 2 ^ x = contains_one (2 ^ x) b i in
+        let below : 2 ^ x < 2 ^ 2 = pow-lt hx in
+        (omega (arith, pow_pos x), omega arith)
     group (suc zero) b i = let w = without_in (2 ^ x) t ok b i in (w.0, w.1)
-    group (suc (suc j)) b i = absurd i
+    group (suc (suc j)) b i = absurd (contains_none b i)
 
-    disjoint : (i j b : ℕ) → i < j → In b (get_or sets i []) → In b (get_or sets j []) → ⊥
+    disjoint : (i j b : ℕ) → i < j → Contains (get_or sets i []) b → Contains (get_or sets j []) b → ⊥
     disjoint i zero b l p q = omega arith
-    disjoint zero (suc zero) b l (inl d) q = (without_in (2 ^ x) t ok b q).2 (sym d)
-    disjoint zero (suc zero) b l (inr p) q = p
+    disjoint zero (suc zero) b l p q = (without_in (2 ^ x) t ok b q).2 (sym (contains_one (2 ^ x) b p))
     disjoint (suc i) (suc zero) b l p q = omega arith
-    disjoint i (suc (suc j)) b l p q = q
+    disjoint i (suc (suc j)) b l p q = contains_none b q
 
     served : (j : ℕ) → j < 2 → Yields 2 P (get_or sets j []) (get_or (x ∷ y ∷ []) j 0)
     served zero l = yields 2 P (2 ^ x ∷ []) x hx (xor_zero_r (2 ^ x))

@@ -1,5 +1,5 @@
 -- The code of a group: what each bank holds, and what a set of banks yields.
-use Rattle.std.specs.Prelude.{◌≡◌, List, [], ◌∷◌, map, ℕ, zero, suc, ◌<◌, length, get_or}
+use Rattle.std.specs.Prelude.{◌≡◌, List, [], ◌∷◌, map, ℕ, zero, suc, ◌<◌, length, slice_index, slice_index_or}
 use Rattle.std.specs.Int.Bits.{bit_xor}
 use Rattle.bits.specs.Bits.{bit}
 use Rattle.cells.specs.Xor.{xor_all}
@@ -9,7 +9,7 @@ abbrev pub Packet : Type 0
 Packet = List ℕ
 
 -- Every packet has P bytes.
-abbrev pub Sized : ℕ → List Packet → Type 0
+abbrev pub Sized : (P : ℕ) → List Packet → Type 0
 Sized P [] = Unit {0}
 Sized P (p ∷ packets) = (length p ≡ P) × Sized P packets
 
@@ -17,7 +17,7 @@ Sized P (p ∷ packets) = (length p ≡ P) × Sized P packets
 pub record Content (K P : ℕ) (packets : List Packet) : Type 0 where
   pub count : length packets ≡ K
   pub sized : Sized P packets
-  pub bytes : (i j : ℕ) → get_or (get_or packets i []) j 0 < 256
+  pub bytes : (symbol byte : ℕ) → slice_index (slice_index_or packets symbol []) byte < 256
 
 -- The packet p before the others where the bit is 1.
 abbrev pub keep_if : ℕ → Packet → List Packet → List Packet
@@ -25,12 +25,12 @@ keep_if zero p packets = packets
 keep_if (suc d) p packets = p ∷ packets
 
 -- Exactly those packets i for which bit i of b is 1. The first packet given has the number i.
-abbrev pub chosen : ℕ → ℕ → List Packet → List Packet
+abbrev pub chosen : (b i : ℕ) → List Packet → List Packet
 chosen b i [] = []
 chosen b i (p ∷ packets) = keep_if (bit b i) p (chosen b (suc i) packets)
 
 -- What bank b holds: byte by byte, the XOR of exactly those packets i for which bit i of b is 1.
-abbrev pub bank_cell : ℕ → List Packet → ℕ → Packet
+abbrev pub bank_cell : (P : ℕ) → List Packet → (b : ℕ) → Packet
 bank_cell P packets b = xor_all P (chosen b 0 packets)
 
 -- A set of banks: a list of their numbers. Every set is such a list, so what holds of all lists holds of all sets.
@@ -38,7 +38,7 @@ abbrev pub Banks : Type 0
 Banks = List ℕ
 
 -- The XOR of what the code puts into the banks of a set.
-abbrev pub xor_of_banks : ℕ → List Packet → Banks → Packet
+abbrev pub xor_of_banks : (P : ℕ) → List Packet → Banks → Packet
 xor_of_banks P packets banks = xor_all P (map (bank_cell P packets) banks)
 
 -- The XOR of the numbers of its banks.
@@ -46,6 +46,7 @@ abbrev pub xor_of_numbers : Banks → ℕ
 xor_of_numbers [] = 0
 xor_of_numbers (b ∷ banks) = bit_xor b (xor_of_numbers banks)
 
--- A set of banks yields symbol i: for every content, the XOR of what the code puts into those banks is packet i.
-abbrev pub Yields : (K P : ℕ) → Banks → ℕ → Type 0
-Yields K P banks i = (packets : List Packet) → Content K P packets → xor_of_banks P packets banks ≡ get_or packets i []
+-- A set of banks yields a symbol: for every content, the XOR of what the code puts into those banks is the symbol's packet.
+abbrev pub Yields : (K P : ℕ) → Banks → (symbol : ℕ) → Type 0
+Yields K P banks symbol =
+    (packets : List Packet) → Content K P packets → xor_of_banks P packets banks ≡ slice_index_or packets symbol []

@@ -1,33 +1,26 @@
--- One group's banks in one row of a store.
-use Rattle.std.specs.Prelude.{◌≡◌, List, [], ◌∷◌, ℕ, zero, suc, ◌+◌, ◌-◌, ◌*◌, ◌≤◌, ◌<◌, length, get_or, take, drop}
-use Rattle.cells.specs.Cell.{cell, put, Outside}
+-- A group's banks filled from its packets, in one row of a store.
+use Rattle.std.specs.Prelude.{◌≡◌, true, List, [], ◌∷◌, ℕ, zero, suc, ◌+◌, ◌*◌, ◌≤◌, length, take, drop}
+use Rattle.cells.specs.Cell.{cell, put}
+use Rattle.cells.specs.Xor.{xor_bytes}
 use Rattle.simplex.specs.Shape.{SymbolsInRange, banks_of}
 use Rattle.simplex.specs.Code.{Packet, bank_cell}
+use Rattle.simplex.specs.Symbols.{highest_of, without_highest}
+use Rattle.simplex.specs.Banks.{spaced, each_bank}
 
 -- The K packets of P bytes each that stand one after the other in a list of bytes.
 unfoldable pub packets_of : (P K : ℕ) → List ℕ → List Packet
 packets_of P zero bytes = []
 packets_of P (suc K) bytes = take P bytes ∷ packets_of P K (drop P bytes)
 
--- The store s with the cells of banks 1 to n put in, for a group of these packets: bank b at the index `place b`.
-unfoldable pub filled : ℕ → List Packet → (ℕ → ℕ) → ℕ → List ℕ → List ℕ
-filled P packets place zero s = s
-filled P packets place (suc n) s = put (filled P packets place n s) (place (suc n)) (bank_cell P packets (suc n))
+-- The store with banks 1 to n filled, for a group of these packets: bank b, at the index `place b`, with what the code says.
+abbrev pub filled : (P : ℕ) → List Packet → (place : ℕ → ℕ) → (n : ℕ) → (store : List ℕ) → List ℕ
+filled P packets place n store = each_bank (λ b. true) (bank_cell P packets) place n store
 
--- Bank 1 at the index `at`, and each other bank `step` bytes after the one before it.
-abbrev pub spaced : (at step : ℕ) → ℕ → ℕ
-spaced at step b = at + (b - 1) * step
-
--- The banks' cells have room: they lie within the store, in the order of the banks, and none reaches into the next.
-pub record Room (P : ℕ) (place : ℕ → ℕ) (n size : ℕ) : Type 0 where
-  pub within : (b : ℕ) → 1 ≤ b → b ≤ n → place b + P ≤ size
-  pub rising : (a b : ℕ) → 1 ≤ a → a < b → b ≤ n → place a + P ≤ place b
-
--- Of a store s and the store after banks 1 to n were put in: each bank's cell holds what the code says, and every other byte is as it was.
-pub record Holds (P : ℕ) (packets : List Packet) (place : ℕ → ℕ) (n : ℕ) (s after : List ℕ) : Type 0 where
-  pub size : length after ≡ length s
-  pub banks : (b : ℕ) → 1 ≤ b → b ≤ n → cell after (place b) P ≡ bank_cell P packets b
-  pub others : (x : ℕ) → ((b : ℕ) → 1 ≤ b → b ≤ n → Outside P (place b) x) → get_or after x 0 ≡ get_or s x 0
+-- The store with bank b filled by a step of running XOR, from two sources alone: the cell of the bank without its highest symbol, whatever
+-- that cell holds, and that symbol's packet. The packets stand one after the other, P bytes each.
+abbrev pub running_step : (P : ℕ) → (packets : List ℕ) → (place : ℕ → ℕ) → (b : ℕ) → (store : List ℕ) → List ℕ
+running_step P packets place b store =
+    put store (place b) (xor_bytes (cell store (place (without_highest b)) P) (cell packets (highest_of b * P) P))
 
 -- What filling a group's banks asks: K in its range, K packets of P bytes, a step of at least a cell, and room for the last bank's cell.
 pub record Fillable (K P at step : ℕ) (packets store : List ℕ) : Type 0 where

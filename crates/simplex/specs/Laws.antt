@@ -1,65 +1,81 @@
 -- The laws of the code, for every K and every P.
-use Rattle.std.specs.Prelude.{◌≡◌, ◌≢◌, ◌⊎◌, true, false, List, [], ℕ, zero, suc, ◌+◌, ◌-◌, ◌*◌, ◌%◌, ◌^◌, ◌≤◌, ◌<◌, length, get_or, set}
+use Rattle.std.specs.Prelude.{◌≡◌, ◌≢◌, ◌⊎◌, ◌↔◌, Bool, true, false, List, [], ℕ, zero, suc, ◌+◌, ◌-◌, ◌*◌, ◌%◌, ◌^◌, ◌≤◌, ◌<◌, length, slice_index_or, set}
 use Rattle.std.specs.Int.Bits.{bit_xor}
 use Rattle.bits.specs.Marks.{how_many}
 use Rattle.cells.specs.Cell.{cell, put}
 use Rattle.cells.specs.Xor.{xor_bytes}
-use Rattle.simplex.specs.Shape.{banks_of, limit_of, degree_of}
+use Rattle.simplex.specs.Shape.{banks_of, is_bank, limit_of, degree_of}
 use Rattle.simplex.specs.Code.{Packet, Sized, Content, Banks, bank_cell, xor_of_numbers, Yields}
 use Rattle.simplex.specs.Limit.{Fails}
-use Rattle.simplex.specs.Filling.{packets_of, filled, spaced, Room, Holds, Fillable}
 use Rattle.simplex.specs.Symbols.{has_symbol, highest_of, without_highest}
-use Rattle.simplex.specs.Running.{running_step}
-use Rattle.simplex.specs.Updating.{symbol_updated, Changed}
+use Rattle.simplex.specs.Banks.{spaced, Room, each_bank, BanksSet}
+use Rattle.simplex.specs.Filling.{packets_of, filled, running_step, Fillable}
+use Rattle.simplex.specs.Updating.{bank_updated, symbol_updated}
+
+-- linear: the XOR of the cells of banks a and b is the cell of a XOR b.
+-- two: if a XOR b = 2^i, the two cells XOR to packet i. alone: the systematic bank 2^i (customers say: a single bank) holds packet i.
+-- yields: a set of banks whose numbers XOR to 2^i yields symbol i. fails: a set of banks that fails a symbol does not yield it.
+pub record TheCode : Type 0 where
+  pub linear : (P : ℕ) (packets : List Packet) → Sized P packets → (a b : ℕ)
+      → xor_bytes (bank_cell P packets a) (bank_cell P packets b) ≡ bank_cell P packets (bit_xor a b)
+  pub two : (K P : ℕ) (packets : List Packet) → Content K P packets → (i a b : ℕ) → i < K → bit_xor a b ≡ 2 ^ i
+      → xor_bytes (bank_cell P packets a) (bank_cell P packets b) ≡ slice_index_or packets i []
+  pub alone : (K P : ℕ) (packets : List Packet) → Content K P packets → (i : ℕ) → i < K
+      → bank_cell P packets (2 ^ i) ≡ slice_index_or packets i []
+  pub yields : (K P : ℕ) (banks : Banks) (i : ℕ) → i < K → xor_of_numbers banks ≡ 2 ^ i → Yields K P banks i
+  pub fails : (K P : ℕ) (banks : Banks) (i : ℕ) → Fails K P banks i → Yields K P banks i → ⊥
 
 -- How many of the banks 1 to n have odd degree.
 abbrev pub odd_banks : ℕ → ℕ
 odd_banks zero = 0
 odd_banks (suc n) = degree_of (suc n) % 2 + odd_banks n
 
--- linear: the XOR of the cells of banks a and b is the cell of a XOR b.
--- two: if a XOR b = 2^i, the two cells XOR to packet i. alone: the systematic bank 2^i (01: a single bank) is packet i.
--- yields: a set of banks whose numbers XOR to 2^i yields symbol i.
--- odd: exactly 2^(K-1) of the banks have odd degree.
--- fails: a set of banks that fails a symbol does not yield it.
--- holds: banks put into a store, wherever they have room, hold what the code says, and no other byte is changed.
--- filling: so it is after `fill_group`.
--- highest: a bank holds its highest symbol and none above it. rest: the number without that symbol holds the bank's other symbols and no more.
+-- numbers: a group's banks are numbered from 1 to 2^K - 1.
+-- holders: exactly 2^(K-1) of the banks, which are numbered from 1, hold symbol i. odd: exactly 2^(K-1) of them have odd degree.
+-- highest: a bank holds its highest symbol and none above it. rest: the number without that symbol holds the bank's other symbols and no
+-- more.
 -- lower: where a bank has degree two or more, that number is a bank with a lower number, of one degree less.
--- copies, steps: with the banks before it put in, a systematic bank is put in by a copy of its packet, and one of degree two or more by a step.
--- kinds: there are no other banks.
--- holders: exactly 2^(K-1) of the banks, which are numbered from 1, hold symbol i.
--- updated: an update changes the cells of the banks that hold the symbol, whatever is there, and no other byte.
--- fresh: where the banks hold what the code says, the store after an update is the store after all banks were put in for the packets with the new one.
-pub record TheCode : Type 0 where
-  pub linear : (P : ℕ) (packets : List Packet) → Sized P packets → (a b : ℕ)
-      → xor_bytes (bank_cell P packets a) (bank_cell P packets b) ≡ bank_cell P packets (bit_xor a b)
-  pub two : (K P : ℕ) (packets : List Packet) → Content K P packets → (i a b : ℕ) → i < K → bit_xor a b ≡ 2 ^ i
-      → xor_bytes (bank_cell P packets a) (bank_cell P packets b) ≡ get_or packets i []
-  pub alone : (K P : ℕ) (packets : List Packet) → Content K P packets → (i : ℕ) → i < K → bank_cell P packets (2 ^ i) ≡ get_or packets i []
-  pub yields : (K P : ℕ) (banks : Banks) (i : ℕ) → i < K → xor_of_numbers banks ≡ 2 ^ i → Yields K P banks i
+-- kinds: every other bank is systematic.
+pub record TheSymbols : Type 0 where
+  pub numbers : (K b : ℕ) → (is_bank K b ≡ true) ↔ ((1 ≤ b) × (b ≤ banks_of K))
+  pub holders : (K i : ℕ) → i < K → how_many (λ b. has_symbol (suc b) i) (banks_of K) ≡ 2 ^ (K - 1)
   pub odd : (K : ℕ) → 1 ≤ K → odd_banks (banks_of K) ≡ limit_of K
-  pub fails : (K P : ℕ) (banks : Banks) (i : ℕ) → Fails K P banks i → Yields K P banks i → ⊥
-  pub holds : (P : ℕ) (packets : List Packet) (place : ℕ → ℕ) (n : ℕ) (s : List ℕ) → Sized P packets → Room P place n (length s)
-      → Holds P packets place n s (filled P packets place n s)
-  pub filling : (K P at step : ℕ) (packets store : List ℕ) → Fillable K P at step packets store
-      → Holds P (packets_of P K packets) (spaced at step) (banks_of K) store (filled P (packets_of P K packets) (spaced at step) (banks_of K) store)
-  pub highest : (b : ℕ) → 1 ≤ b → (has_symbol b (highest_of b) ≡ true) × ((i : ℕ) → highest_of b < i → has_symbol b i ≡ false)
+  pub highest : (b : ℕ) → 1 ≤ b → (has_symbol b (highest_of b) ≡ true)
+      × ((i : ℕ) → highest_of b < i → has_symbol b i ≡ false)
   pub rest : (b : ℕ) → 1 ≤ b → (has_symbol (without_highest b) (highest_of b) ≡ false)
       × ((i : ℕ) → i ≢ highest_of b → has_symbol (without_highest b) i ≡ has_symbol b i)
   pub lower : (b : ℕ) → 2 ≤ degree_of b
       → (1 ≤ without_highest b) × (without_highest b < b) × (degree_of b ≡ suc (degree_of (without_highest b)))
-  pub copies : (K P : ℕ) (packets : List ℕ) → K * P ≤ length packets → (i : ℕ) (place : ℕ → ℕ) (s : List ℕ) → i < K
-      → put (filled P (packets_of P K packets) place (2 ^ i - 1) s) (place (2 ^ i)) (cell packets (i * P) P)
-      ≡ filled P (packets_of P K packets) place (2 ^ i) s
-  pub steps : (K P : ℕ) (packets : List ℕ) → K * P ≤ length packets → (b : ℕ) (place : ℕ → ℕ) (s : List ℕ)
-      → 2 ≤ degree_of b → b ≤ banks_of K → Room P place b (length s)
-      → running_step P packets place b (filled P (packets_of P K packets) place (b - 1) s) ≡ filled P (packets_of P K packets) place b s
   pub kinds : (b : ℕ) → 1 ≤ b → (2 ^ highest_of b ≡ b) ⊎ (2 ≤ degree_of b)
-  pub holders : (K i : ℕ) → i < K → how_many (λ b. has_symbol (suc b) i) (banks_of K) ≡ 2 ^ (K - 1)
-  pub updated : (P i : ℕ) (packet : Packet) (place : ℕ → ℕ) (n : ℕ) (s : List ℕ) → length packet ≡ P → 2 ^ i ≤ n → Room P place n (length s)
-      → Changed P i (xor_bytes (cell s (place (2 ^ i)) P) packet) place n s (symbol_updated P i packet place n s)
-  pub fresh : (P : ℕ) (packets : List Packet) (i : ℕ) (packet : Packet) (place : ℕ → ℕ) (n : ℕ) (s : List ℕ)
-      → i < length packets → 2 ^ i ≤ n → Sized P packets → length packet ≡ P → Room P place n (length s)
-      → ((b : ℕ) → 1 ≤ b → b ≤ n → cell s (place b) P ≡ bank_cell P packets b)
-      → symbol_updated P i packet place n s ≡ filled P (set packets i packet) place n s
+
+-- each: of the banks in a store, wherever they have room, those that pass a test can be set, to P bytes each, with no other byte changed.
+-- holds: so banks that are filled hold what the code says; filling: as they are after `fill_group`.
+-- updated: so an update changes the cells of the banks that hold the symbol, whatever is there.
+-- copies, steps: with the banks before it filled, a systematic bank is filled by a copy of its packet, and one of degree two or more by a
+-- step.
+-- fresh: where the banks hold what the code says, the store after an update is the store filled with the new packet in the old one's place.
+pub record TheBanks : Type 0 where
+  pub each : (P : ℕ) (test : ℕ → Bool) (what : ℕ → Packet) (place : ℕ → ℕ) (n : ℕ) (store : List ℕ)
+      → ((b : ℕ) → 1 ≤ b → b ≤ n → test b ≡ true → length (what b) ≡ P) → Room P place n (length store)
+      → BanksSet P test what place n store (each_bank test what place n store)
+  pub holds : (P : ℕ) (packets : List Packet) (place : ℕ → ℕ) (n : ℕ) (store : List ℕ) → Sized P packets
+      → Room P place n (length store)
+      → BanksSet P (λ b. true) (bank_cell P packets) place n store (filled P packets place n store)
+  pub filling : (K P at step : ℕ) (packets store : List ℕ) → Fillable K P at step packets store
+      → BanksSet P (λ b. true) (bank_cell P (packets_of P K packets)) (spaced at step) (banks_of K) store
+      (filled P (packets_of P K packets) (spaced at step) (banks_of K) store)
+  pub updated : (P i : ℕ) (packet : Packet) (place : ℕ → ℕ) (n : ℕ) (store : List ℕ) → length packet ≡ P → 2 ^ i ≤ n
+      → Room P place n (length store)
+      → BanksSet P (λ b. has_symbol b i) (bank_updated P i packet place store) place n store (symbol_updated P i packet place n store)
+  pub copies : (K P : ℕ) (packets : List ℕ) → K * P ≤ length packets
+      → (i : ℕ) (place : ℕ → ℕ) (store : List ℕ) → i < K
+      → put (filled P (packets_of P K packets) place (2 ^ i - 1) store) (place (2 ^ i)) (cell packets (i * P) P)
+      ≡ filled P (packets_of P K packets) place (2 ^ i) store
+  pub steps : (K P : ℕ) (packets : List ℕ) → K * P ≤ length packets
+      → (b : ℕ) (place : ℕ → ℕ) (store : List ℕ) → 2 ≤ degree_of b → b ≤ banks_of K → Room P place b (length store)
+      → running_step P packets place b (filled P (packets_of P K packets) place (b - 1) store)
+      ≡ filled P (packets_of P K packets) place b store
+  pub fresh : (P : ℕ) (packets : List Packet) (i : ℕ) (packet : Packet) (place : ℕ → ℕ) (n : ℕ) (store : List ℕ)
+      → i < length packets → 2 ^ i ≤ n → Sized P packets → length packet ≡ P → Room P place n (length store)
+      → ((b : ℕ) → 1 ≤ b → b ≤ n → cell store (place b) P ≡ bank_cell P packets b)
+      → symbol_updated P i packet place n store ≡ filled P (set packets i packet) place n store

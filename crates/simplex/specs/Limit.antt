@@ -1,14 +1,10 @@
 -- The limit of the code, and that it is met at K = 2.
-use Rattle.std.specs.Prelude.{◌≡◌, ◌≢◌, ◌⊎◌, List, [], ◌∷◌, ◌++◌, ℕ, suc, ◌+◌, ◌≤◌, ◌<◌, length, get_or, replicate}
+use Rattle.std.specs.Prelude.{◌≡◌, ◌≢◌, List, [], ◌∷◌, ◌++◌, ℕ, suc, ◌≤◌, ◌<◌, length, slice_index, slice_index_or, take, replicate, sum, Contains}
 use Rattle.simplex.specs.Shape.{banks_of, limit_of}
 use Rattle.simplex.specs.Code.{Packet, Content, Banks, xor_of_banks, Yields}
 
--- A request vector of a group (01: a request): how often each symbol is read. What it totals:
-abbrev pub total : List ℕ → ℕ
-total [] = 0
-total (c ∷ counts) = c + total counts
-
--- Its reads (01: asks), each by its symbol: the counts 2, 0, 1 ask for the symbols 0, 0, 2. The first count given is that of symbol i.
+-- A request vector says how often each symbol of a group is read (customers say: a request). Its reads, each by its symbol (customers say:
+-- asks): the counts 2, 0, 1 are the reads 0, 0, 2. The first count given is that of symbol i.
 abbrev pub reads_from : ℕ → List ℕ → List ℕ
 reads_from i [] = []
 reads_from i (c ∷ counts) = replicate c i ++ reads_from (suc i) counts
@@ -16,32 +12,31 @@ reads_from i (c ∷ counts) = replicate c i ++ reads_from (suc i) counts
 abbrev pub reads_of : List ℕ → List ℕ
 reads_of counts = reads_from 0 counts
 
--- Bank b is in the set.
-abbrev pub In : ℕ → Banks → Type 0
-In b [] = ⊥
-In b (x ∷ banks) = (b ≡ x) ⊎ In b banks
+-- Among them those of symbol i stand from here on.
+abbrev pub start : List ℕ → ℕ → ℕ
+start counts i = sum (take i counts)
 
 -- Bank sets of a group of K symbols, one for each of the reads, of which no two share a bank. A set may have any size.
 pub record DisjointSets (K : ℕ) (reads : List ℕ) (sets : List Banks) : Type 0 where
   pub one_each : length sets ≡ length reads
-  pub of_group : (j b : ℕ) → In b (get_or sets j []) → (1 ≤ b) × (b ≤ banks_of K)
-  pub disjoint : (i j b : ℕ) → i < j → In b (get_or sets i []) → In b (get_or sets j []) → ⊥
+  pub of_group : (j b : ℕ) → Contains (slice_index_or sets j []) b → (1 ≤ b) × (b ≤ banks_of K)
+  pub disjoint : (i j b : ℕ) → i < j → Contains (slice_index_or sets i []) b → Contains (slice_index_or sets j []) b → ⊥
 
--- A set of banks fails symbol i: here is a content for which the XOR of what the code puts into them is not packet i.
-pub record Fails (K P : ℕ) (banks : Banks) (i : ℕ) : Type 0 where
+-- A set of banks fails a symbol: here is a content for which the XOR of what the code puts into them is not the symbol's packet.
+pub record Fails (K P : ℕ) (banks : Banks) (symbol : ℕ) : Type 0 where
   pub packets : List Packet
   pub content : Content K P packets
-  pub wrong : xor_of_banks P packets banks ≢ get_or packets i []
+  pub wrong : xor_of_banks P packets banks ≢ slice_index_or packets symbol []
 
 -- Of these reads, given these sets, some read's set fails its symbol.
 abbrev pub SomeFails : (K P : ℕ) → List ℕ → List Banks → Type 0
-SomeFails K P reads sets = (j : ℕ) × (j < length reads) × Fails K P (get_or sets j []) (get_or reads j 0)
+SomeFails K P reads sets = (j : ℕ) × (j < length reads) × Fails K P (slice_index_or sets j []) (slice_index reads j)
 
--- THE LIMIT. Take any counts of one group that total more than 2^(K-1), and any bank sets of that group, one for each read: if no two share a
--- bank, some set does not yield its read's symbol, and the content for which it fails is shown. (A packet has at least one byte.)
+-- THE LIMIT. Take any counts of one group that total more than 2^(K-1), and any bank sets of that group, one for each read: if no two share
+-- a bank, some set does not yield its read's symbol, and the content for which it fails is shown. (A packet has at least one byte.)
 abbrev pub TheLimit : Type 0
 TheLimit =
-    (K P : ℕ) (counts : List ℕ) (sets : List Banks) → 1 ≤ P → limit_of K < total counts → DisjointSets K (reads_of counts) sets
+    (K P : ℕ) (counts : List ℕ) (sets : List Banks) → 1 ≤ P → limit_of K < sum counts → DisjointSets K (reads_of counts) sets
     → SomeFails K P (reads_of counts) sets
 
 -- The limit of a group's reads in any order, each given by its symbol.
@@ -54,7 +49,7 @@ LimitOfReads = (K P : ℕ) (reads : List ℕ) → 1 ≤ P → LimitFor K P reads
 -- The bank sets serve the reads: they are sets of the group, one for each read, no two share a bank, and each yields its read's symbol.
 pub record ServedBy (K P : ℕ) (reads : List ℕ) (sets : List Banks) : Type 0 where
   pub apart : DisjointSets K reads sets
-  pub yields : (j : ℕ) → j < length reads → Yields K P (get_or sets j []) (get_or reads j 0)
+  pub yields : (j : ℕ) → j < length reads → Yields K P (slice_index_or sets j []) (slice_index reads j)
 
 -- The reads can be served, by these sets.
 pub record Servable (K P : ℕ) (reads : List ℕ) : Type 0 where
@@ -63,4 +58,4 @@ pub record Servable (K P : ℕ) (reads : List ℕ) : Type 0 where
 
 -- The limit is met where that needs no planner: at K = 2, by every request of that total, two reads of one symbol or one of each.
 abbrev pub LimitMet : Type 0
-LimitMet = (P : ℕ) (counts : List ℕ) → length counts ≡ 2 → total counts ≡ limit_of 2 → Servable 2 P (reads_of counts)
+LimitMet = (P : ℕ) (counts : List ℕ) → length counts ≡ 2 → sum counts ≡ limit_of 2 → Servable 2 P (reads_of counts)

@@ -1,14 +1,14 @@
-// The code of a group of K symbols: its shape, its limit, the filling of its banks, and the update of a symbol in them.
+// The code of a group of K symbols: its shape, its limit, the filling of its banks, and the update of a symbol's packet in them.
 #![tactic(auto)]
 
 ghost use Rattle.std.specs.Prelude.{◌≡◌, suc, ◌+◌, ◌*◌, ◌^◌, ◌≤◌, ◌<◌, length};
 ghost use Rattle.cells.specs.Cell.{cell};
 ghost use Rattle.simplex.specs.Shape.{SymbolsInRange, banks_of, group_of, degree_of};
 ghost use Rattle.simplex.specs.Limit.{TheLimit, LimitOfReads, LimitMet};
-ghost use Rattle.simplex.specs.Laws.{TheCode};
-ghost use Rattle.simplex.specs.Filling.{packets_of, filled, spaced, Fillable};
+ghost use Rattle.simplex.specs.Laws.{TheCode, TheSymbols, TheBanks};
+ghost use Rattle.simplex.specs.Banks.{spaced};
+ghost use Rattle.simplex.specs.Filling.{packets_of, filled, running_step, Fillable};
 ghost use Rattle.simplex.specs.Symbols.{highest_of};
-ghost use Rattle.simplex.specs.Running.{running_step};
 ghost use Rattle.simplex.specs.Updating.{symbol_updated, Updatable};
 
 // The bounds of K. A request vector has as many counts as the largest K has symbols.
@@ -57,7 +57,9 @@ pub fn degree(bank: u32) -> u32
 
 // Carries the laws of the code. It does nothing.
 pub fn the_code()
-    ensures { TheCode }
+    ensures code { TheCode }
+    ensures symbols { TheSymbols }
+    ensures banks { TheBanks }
 {}
 
 // Carries the limit of the code, and that it is met at K = 2. It does nothing.
@@ -76,12 +78,12 @@ pub struct Spacing {
 }
 
 impl Spacing {
-    // Where bank b lies.
-    fn place_of(self, b: usize) -> usize
-        requires { (1 ≤ b) × (spaced self.at self.step b < 2 ^ 64) }
-        ensures { result ≡ spaced self.at self.step b }
+    // Where a bank lies.
+    fn place_of(self, bank: usize) -> usize
+        requires { (1 ≤ bank) × (spaced self.at self.step bank < 2 ^ 64) }
+        ensures { result ≡ spaced self.at self.step bank }
     {
-        self.at + (b - 1) * self.step
+        self.at + (bank - 1) * self.step
     }
 }
 
@@ -95,58 +97,60 @@ fn highest_of(bank: usize) -> usize
     bank.ilog2() as usize
 }
 
-// Packet i of packets of `p` bytes that stand one after the other.
-fn packet_of(packets: &[u8], p: usize, i: usize) -> &[u8]
-    requires { suc i * p ≤ length packets.now }
-    ensures { result.now ≡ cell packets.now (i * p) p }
+// The packet of a symbol: packets of `p` bytes stand one after the other.
+fn packet_of(packets: &[u8], p: usize, symbol: usize) -> &[u8]
+    requires { suc symbol * p ≤ length packets.now }
+    ensures { result.now ≡ cell packets.now (symbol * p) p }
 {
-    &packets[i * p..][..p]
+    &packets[symbol * p..][..p]
 }
 
-// Sets one bank of degree two or more, in one row of `store`, by a step of running XOR. `packets` are the group's, at least up to that of the bank's highest symbol:
-// of one packet handed in, the promise could not say whose it is.
-pub fn running_step(store: &mut [u8], banks: Spacing, packets: &[u8], p: usize, b: usize)
-    requires degree { 2 ≤ degree_of b }
-    requires packet { suc (highest_of b) * p ≤ length packets.now }
-    requires room { (p ≤ banks.step) × (spaced banks.at banks.step b + p ≤ length store.old) }
-    ensures { store.new ≡ running_step p packets.now (spaced banks.at banks.step) b store.old }
+// Sets one bank of degree two or more, in one row of `store`, by a step of running XOR. `packets` are the group's, at least up to that of
+// the bank's highest symbol: of one packet handed in, the promise could not say whose it is.
+pub fn running_step(store: &mut [u8], banks: Spacing, packets: &[u8], p: usize, bank: usize)
+    requires degree { 2 ≤ degree_of bank }
+    requires packet { suc (highest_of bank) * p ≤ length packets.now }
+    requires room { (p ≤ banks.step) × (spaced banks.at banks.step bank + p ≤ length store.old) }
+    ensures { store.new ≡ running_step p packets.now (spaced banks.at banks.step) bank store.old }
 {
-    let h = highest_of(b);
-    let from = banks.place_of(b - (1 << h));
-    let at = banks.place_of(b);
-    cells::xor_from(store, at, from, packet_of(packets, p, h));
+    let highest = highest_of(bank);
+    let from = banks.place_of(bank - (1 << highest));
+    let at = banks.place_of(bank);
+    cells::xor_from(store, at, from, packet_of(packets, p, highest));
 }
 
-// Fills one group's banks in one row of `store` from its `k` packets of `p` bytes: a systematic bank is a copy of its packet, and every other a step of running XOR.
-// They go in the order of their numbers, since the bank that a step comes from has a lower one.
+// Fills one group's banks in one row of `store` from its `k` packets of `p` bytes: a systematic bank is a copy of its packet, and every
+// other a step of running XOR. They go in the order of their numbers, since the bank that a step comes from has a lower one.
 #[tactic(auto, using(crate::proofs::Running::degree_two))]
 pub fn fill_group(store: &mut [u8], banks: Spacing, packets: &[u8], p: usize, k: usize)
     requires { Fillable k p banks.at banks.step packets.now store.old }
-    ensures { store.new ≡ filled p (packets_of p k packets.now) (spaced banks.at banks.step) (banks_of k) store.old }
+    ensures { store.new ≡ filled p (packets_of p k packets.now)
+        (spaced banks.at banks.step) (banks_of k) store.old }
 {
-    for b in 1..=group_of(k).banks {
-        if b.is_power_of_two() {
-            let packet = packet_of(packets, p, highest_of(b));
-            cells::copy_into(store, banks.place_of(b), packet);
+    for bank in 1..=group_of(k).banks {
+        if bank.is_power_of_two() {
+            let packet = packet_of(packets, p, highest_of(bank));
+            cells::copy_into(store, banks.place_of(bank), packet);
         } else {
-            running_step(store, banks, packets, p, b);
+            running_step(store, banks, packets, p, bank);
         }
     }
 }
 
-// Changes the packet of symbol i in one group's banks in one row of `store`. The systematic bank is the first that holds the symbol, and is set last: the old
-// packet is read there until then, and what the XOR leaves there is the new one. The loop goes upwards, because the compiler finds no vector form of it
-// downwards.
-pub fn update_symbol(store: &mut [u8], banks: Spacing, packet: &[u8], k: usize, i: usize)
-    requires { Updatable k (length packet.now) i banks.at banks.step store.old }
-    ensures { store.new ≡ symbol_updated (length packet.now) i packet.now (spaced banks.at banks.step) (banks_of k) store.old }
+// Updates the packet of a symbol in one group's banks in one row of `store`. The systematic bank is the first that holds the symbol, and
+// is set last: the old packet is read there until then, and what the XOR leaves there is the new one. The loop goes upwards, because the
+// compiler finds no vector form of it downwards.
+pub fn update_symbol(store: &mut [u8], banks: Spacing, packet: &[u8], k: usize, symbol: usize)
+    requires { Updatable k (length packet.now) symbol banks.at banks.step store.old }
+    ensures { store.new ≡ symbol_updated (length packet.now) symbol packet.now
+        (spaced banks.at banks.step) (banks_of k) store.old }
 {
-    let systematic = 1 << i;
+    let systematic = 1 << symbol;
     let old = banks.place_of(systematic);
-    for b in systematic + 1..=group_of(k).banks {
+    for bank in systematic + 1..=group_of(k).banks {
         // `as`, since u64 has no From<usize>.
-        if bits::is_marked(b as u64, i) {
-            cells::xor_into(store, banks.place_of(b), old, packet);
+        if bits::is_marked(bank as u64, symbol) {
+            cells::xor_into(store, banks.place_of(bank), old, packet);
         }
     }
     cells::copy_into(store, old, packet)

@@ -1,10 +1,11 @@
 -- What a frame does, from what the calls that serve it gave.
 use mathlib.Core.Path.{◌≡◌, refl, sym, ap, ◌∙◌}
 use mathlib.Core.Logic.{◌⊎◌, inl, inr, ⊎_elim}
-use mathlib.Core.Bool.{false}
+use mathlib.Core.Bool.{Bool, true, false, cond}
 use mathlib.Core.List.{List, ◌∷◌, ◌++◌}
-use Prim.Native.Nat.{ℕ, min}
-use lib.ListN.{length, take, drop, take-append-drop}
+use Prim.Native.Nat.{ℕ, ◌≤◌, ◌<◌, min}
+use native.Mathlib.Omega.{arith}
+use lib.ListN.{length, take, drop, take-append-drop, length-drop}
 use Rattle.std.specs.Prelude.{Err}
 use Rattle.refusals.specs.declared.Refusal.{Refusal}
 use Rattle.refusals.specs.Verdict.{Verdict, Accepted}
@@ -14,25 +15,34 @@ use Rattle.memory.specs.declared.State.{State}
 use Rattle.memory.specs.declared.Outcome.{Outcome}
 use Rattle.memory.specs.State.{sound}
 use Rattle.memory.specs.Operations.{write_refusal, write_outcome, write_store}
-use Rattle.memory.specs.History.{Operation, write, outcome_of, store_after, packets_by}
-use Rattle.frames.specs.Frames.{answer_byte, said}
-use Rattle.frames.specs.Printing.{Prints}
+use Rattle.memory.specs.Meaning.{Operation}
+use Rattle.memory.specs.Meaning as operation
+use Rattle.memory.specs.History.{outcome_of, store_after, packets_by}
+use Rattle.frames.specs.declared.TheConstants.{MOST_FRAME, MOST_STORE}
+use Rattle.frames.specs.Frame.{Frame, set_up, write, release, read, unknown, frame_of, first_byte}
+use Rattle.frames.specs.Printing.{said, Prints}
+use Rattle.frames.proofs.Framed.{decoded}
 use Rattle.steps.specs.declared.Reply.{Reply}
-use Rattle.steps.specs.Session.{Running, most_store, memory_of, behind, operation_done}
+use Rattle.steps.specs.Asked.{asks_operation, asked}
+use Rattle.steps.specs.Session.{Running, memory_of, behind, frame_done}
 use Rattle.steps.specs.Steps.{Gives}
-use Rattle.steps.specs.Parts.{lent_size}
+use Rattle.steps.specs.Parts.{lent_size, FewReads}
+use Rattle.steps.proofs.Fitting.{line_place}
 use Rattle.std.proofs.lemmas.List.{take_min, drop_min}
 
 -- ---- an operation
 
--- what a memory did is what the session has then done
-pub running : (store : List ℕ) (kind : ℕ) (operation : Shape → Operation) (st : State) (o : Outcome) {kept out left : List ℕ} {r : Reply}
+-- what a memory did that a frame asks of it is what the session has then done
+pub running : (store : List ℕ) (frame : Frame) (operation : Shape → Operation) (st : State) (o : Outcome) {kept out left : List ℕ} {r : Reply}
+    → asked frame ≡ asks_operation operation
     → let memory = memory_of st store in
     let op = operation st.shape in
     o.state ≡ (outcome_of memory op).state → kept ≡ store_after memory op ++ behind st store → r.session ≡ Running o.state
-    → Prints (answer_byte kind ∷ said (packets_by memory op) (outcome_of memory op).answer) out r.len left
-    → Gives (operation_done (Running st) store kind operation) out r kept left
-running store kind operation st o did holds goes line = record { session = goes ∙ ap (λ (x : State). Running x) did; store = holds; line = line }
+    → Prints (first_byte frame ∷ said (packets_by memory op) (outcome_of memory op).answer) out r.len left
+    → Gives (frame_done (Running st) store frame) out r kept left
+unfolding frame_done
+running store frame operation st o asks did holds goes line =
+    rw asks (record { session = goes ∙ ap (λ (x : State). Running x) did; store = holds; line = line })
 
 -- the store where an operation keeps it
 pub same_store : (st : State) (store : List ℕ) → store ≡ (memory_of st store).store ++ behind st store
@@ -50,25 +60,43 @@ pub record Lent (st : State) (store : List ℕ) (size : ℕ) : Type 0 where
   pub front : take size store ≡ (memory_of st store).store
   pub rest : drop size store ≡ behind st store
 
-pub lends : (st : State) (store : List ℕ) (size : ℕ) → length store ≡ most_store → size ≡ min (lent_size st.shape) most_store
+pub lends : (st : State) (store : List ℕ) (size : ℕ) → length store ≡ MOST_STORE → size ≡ min (lent_size st.shape) MOST_STORE
     → (sound st ≡ false) ⊎ Lent st store size
 unfolding lent_size
 lends st store size fits e = go (shape_refusal st.shape) refl
   where
     go : (v : Verdict) → shape_refusal st.shape ≡ v → (sound st ≡ false) ⊎ Lent st store size
     go Accepted a =
-        let same : size ≡ min (store_size st.shape) most_store = rw a at e in
+        let same : size ≡ min (store_size st.shape) MOST_STORE = rw a at e in
         inr (record { front = rw (same, ← fits) (take_min (store_size st.shape) store); rest = rw (same, ← fits) (drop_min (store_size st.shape) store) })
     go (Err refusal) r = inl (broken st refusal r)
 
 -- a write to it is the write to the memory, and the bytes behind it are kept
-pub writes : (st : State) (store : List ℕ) (size row : ℕ) (packets : List ℕ) → length store ≡ most_store → size ≡ min (lent_size st.shape) most_store
+pub writes : (st : State) (store : List ℕ) (size row : ℕ) (packets : List ℕ) → length store ≡ MOST_STORE → size ≡ min (lent_size st.shape) MOST_STORE
     → let memory = memory_of st store in
-    (write_outcome st (length (take size store)) row (length packets) ≡ outcome_of memory (write row packets))
-    × (write_store st (take size store) row packets ++ drop size store ≡ store_after memory (write row packets) ++ behind st store)
+    (write_outcome st (length (take size store)) row (length packets) ≡ outcome_of memory (operation.write row packets))
+    × (write_store st (take size store) row packets ++ drop size store ≡ store_after memory (operation.write row packets) ++ behind st store)
 unfolding write_refusal
 writes st store size row packets fits e =
     ⊎_elim
     (λ b. (rw b, rw b (take-append-drop size store ∙ same_store st store)))
     (λ l. rw (l.front, l.rest) (refl, refl))
     (lends st store size fits e)
+
+-- ---- the list of a 04
+
+few_by : (a b c d : Bool) (shape : Shape) (row other : ℕ) (packets list : List ℕ) → length list < MOST_FRAME
+    → FewReads (cond a (set_up shape) (cond b (write row packets) (cond c (release other) (cond d (read list) unknown))))
+few_by true b c d shape row other packets list h = tt
+few_by false true c d shape row other packets list h = tt
+few_by false false true d shape row other packets list h = tt
+few_by false false false true shape row other packets list h = h
+few_by false false false false shape row other packets list h = tt
+
+pub few_reads : (bytes : List ℕ) → length bytes ≤ MOST_FRAME → FewReads (frame_of bytes)
+unfolding frame_of
+few_reads bytes h =
+    few_by _ _ _ _ _ _ _ _ (drop 1 bytes) (omega (arith, length-drop 1 bytes))
+
+-- what a line owes its answer
+pub ruleset line_fits = (line_place, few_reads, decoded)

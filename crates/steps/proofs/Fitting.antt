@@ -1,8 +1,8 @@
 -- The numbers of answers fit the bytes that they are said in.
 use mathlib.Core.Path.{◌≡◌, refl}
 use mathlib.Core.Bool.{Bool, true, false}
-use mathlib.Core.List.{List}
-use Prim.Native.Nat.{ℕ, zero, suc, ◌*◌, ◌≤◌, ◌<◌}
+use mathlib.Core.List.{List, [], ◌∷◌}
+use Prim.Native.Nat.{ℕ, zero, suc, ◌*◌, ◌/◌, ◌≤◌, ◌<◌}
 use native.Mathlib.Omega.{arith}
 use lib.ListN.{length}
 use Rattle.bits.proofs.Marks.{many_most}
@@ -15,19 +15,21 @@ use Rattle.simplex.specs.declared.Group.{Group}
 use Rattle.simplex.specs.Shape.{group_of}
 use Rattle.simplex.proofs.Tables.{limit_most}
 use Rattle.layout.specs.declared.Shape.{Shape}
+use Rattle.layout.specs.declared.TheConstants.{MOST_ROWS}
+use Rattle.layout.specs.Occupancy.{is_full}
 use Rattle.layout.specs.Shape.{shape_refusal, InRange, banks}
 use Rattle.layout.proofs.Ranges.{range_words, all_banks_lem}
-use Rattle.reads.specs.Reads.{read_count}
+use Rattle.reads.specs.Reads.{reads_in}
 use Rattle.reads.specs.Refusals.{list_refusal}
 use Rattle.memory.specs.declared.State.{State}
 use Rattle.memory.specs.declared.Outcome.{Outcome}
-use Rattle.memory.specs.declared.Answer.{Answer}
-use Rattle.memory.specs.declared.Answer.TheVariants.{Served}
-use Rattle.memory.specs.State.{is_full, full_rows, sound, row_toggled}
+use Rattle.refusals.specs.declared.Answer.{Answer}
+use Rattle.refusals.specs.declared.Answer.TheVariants.{Served}
+use Rattle.memory.specs.State.{full_rows, row_filled, row_emptied}
 use Rattle.memory.specs.Operations.{store_refusal, write_refusal, write_outcome, release_refusal, release_outcome, cycle_refusal, cycle_outcome}
-use Rattle.memory.proofs.States.{sound_words}
-use Rattle.memory.proofs.Accepted.{store_facts, written_facts, released_facts}
-use Rattle.frames.specs.Frames.{most_frame, line_refusal}
+use Rattle.memory.proofs.States.{sound_words, store_facts}
+use Rattle.frames.specs.declared.TheConstants.{MOST_FRAME}
+use Rattle.frames.specs.Frame.{line_refusal}
 use Rattle.frames.specs.Printing.{Fits}
 use Rattle.steps.specs.Session.{set_up_refusal}
 
@@ -70,11 +72,17 @@ fits_by : (told : Answer) (v : Verdict) → Near v → (v ≡ Accepted → Fits 
 fits_by told Accepted a b = b refl
 fits_by told (Err refusal) a b = a
 
--- ---- the number of full rows
+-- ---- the number of reads, and of full rows
 
--- there are at most G rows
-few_full : (st : State) (row : ℕ) → sound st ≡ true → full_rows (row_toggled st row) < 256
-few_full st row e = omega (arith, many_most (is_full (row_toggled st row)) st.shape.g, (sound_words st e).ranges.rows)
+pub reads_many : (list : List ℕ) → length (reads_in list) ≡ length list / 3
+reads_many [] = refl
+reads_many (a ∷ []) = refl
+reads_many (a ∷ b ∷ []) = refl
+reads_many (a ∷ b ∷ c ∷ list) = rw (reads_many list) (omega arith)
+
+-- a memory has at most 64 rows
+few_full : (st : State) → full_rows st < 256
+few_full st = omega (arith, many_most (is_full st.rows) MOST_ROWS)
 
 -- ---- the operations
 
@@ -87,16 +95,16 @@ unfolding release_refusal
 near_release st row = search near
 
 pub fits_write : (st : State) (size row len : ℕ) → Fits (write_outcome st size row len).answer
-fits_write st size row len = fits_by _ _ (near_write st size row len) (λ e. few_full st row (written_facts st size row len e).state)
+fits_write st size row len = fits_by _ _ (near_write st size row len) (λ e. few_full (row_filled st row))
 
 pub fits_release : (st : State) (row : ℕ) → Fits (release_outcome st row).answer
-fits_release st row = fits_by _ _ (near_release st row) (λ e. few_full st row (released_facts st row e).state)
+fits_release st row = fits_by _ _ (near_release st row) (λ e. few_full (row_emptied st row))
 
-pub fits_cycle : (st : State) (size : ℕ) (reads : List ℕ) (out schedule : ℕ) (o : Outcome) → length reads < most_frame
+pub fits_cycle : (st : State) (size : ℕ) (reads : List ℕ) (out schedule : ℕ) (o : Outcome) → length reads < MOST_FRAME
     → o ≡ cycle_outcome st size reads out schedule → Fits o.answer
 unfolding cycle_refusal list_refusal
 fits_cycle st size reads out schedule o h e =
-    let few : read_count reads ≤ 65536 = omega arith in
+    let few : length (reads_in reads) ≤ 65536 = omega (arith, reads_many reads) in
     rw e
     (near_then (store_refusal st size) _ (search near)
     (λ f. let groups : st.shape.m ≤ 65536 = omega (arith, (sound_words st (store_facts st size f).0).ranges.groups) in search near depth 9))
@@ -114,3 +122,6 @@ set_up_banks sh e = let w = set_up_range sh e in omega (arith, all_banks_lem sh 
 
 pub set_up_limit : (sh : Shape) (group : Group) → set_up_refusal sh ≡ Accepted → group ≡ group_of sh.k → group.limit < 256
 set_up_limit sh group e same = rw same (omega (arith, limit_most sh.k (set_up_range sh e).symbols.most))
+
+-- what a set-up owes its answer
+pub ruleset set_up_fits = (set_up_place, set_up_range, set_up_banks, set_up_limit)

@@ -4,7 +4,7 @@ use mathlib.Core.List.{List, [], ◌∷◌, ◌++◌}
 use Prim.Native.Nat.{ℕ, suc, ◌+◌, ◌*◌, ◌≤◌, ◌<◌}
 use native.Mathlib.Omega.{arith}
 use borrow.Author.Tests.{leb-true}
-use lib.ListN.{length, take, drop, length-replicate}
+use lib.ListN.{length, take, length-replicate}
 use lib.Seq.{take_at, length_front, length-take-le}
 use Rattle.std.specs.Prelude.{Result, Ok, Err}
 use Rattle.refusals.specs.declared.Refusal.{Refusal}
@@ -15,21 +15,23 @@ use Rattle.cells.specs.Xor.{zeros}
 use Rattle.cells.proofs.Each.{length_each}
 use Rattle.layout.specs.declared.Shape.{Shape}
 use Rattle.layout.specs.Shape.{shape_refusal, store_size}
-use Rattle.reads.specs.Reads.{read_count, row, group, symbol}
-use Rattle.cycle.specs.Cycle.{packet_of, packets_out}
+use Rattle.reads.specs.Reads.{reads_in, read_at}
+use Rattle.cycle.specs.Cycle.{plans_of, packet_of, packets_out}
 use Rattle.memory.specs.declared.State.{State}
-use Rattle.memory.specs.declared.Answer.{Answer}
-use Rattle.memory.specs.declared.Answer.TheVariants.{Served}
+use Rattle.refusals.specs.declared.Answer.{Answer}
+use Rattle.refusals.specs.declared.Answer.TheVariants.{Served}
 use Rattle.rows.specs.Rows.{packet_in}
 use Rattle.memory.specs.Operations.{set_up_of, cycle_refusal, cycle_output}
-use Rattle.memory.specs.History.{Operation, write, release, History, Memory, outcome_of, store_after, step, run, verdict_in, full_in, last_written, Remembers}
-use Rattle.memory.proofs.Histories.{after_any_history}
+use Rattle.memory.specs.Meaning.{Operation, Memory}
+use Rattle.memory.specs.History.{History, outcome_of, store_after, step, run, verdict_in, last_written, Remembers}
+use Rattle.memory.proofs.Recall.{recall_law}
 use Rattle.lines.specs.Hex.{bytes_of}
-use Rattle.frames.specs.declared.Frame.{Frame}
-use Rattle.frames.specs.declared.Frame.TheVariants.{SetUp, Write, Release, Read, Unknown}
-use Rattle.frames.specs.Frames.{line_refusal, frame_of, answer_byte, no_frame_byte, said}
-use Rattle.steps.specs.Session.{Session, Fresh, Running, most_store, After, unless_refused, set_up_refusal, memory_of, behind, operation_done, cycle_of, frame_done, line_done, lines_done, from_start, answer_after}
-use Rattle.steps.specs.Past.{Past, nothing, since, more, past_by_frame, past_by, past_in, Keeps, Brings}
+use Rattle.frames.specs.declared.TheConstants.{MOST_STORE}
+use Rattle.frames.specs.Frame.{read, unknown, frame_of, frame_in, line_refusal, first_byte}
+use Rattle.frames.specs.Printing.{said}
+use Rattle.steps.specs.Asked.{Asked, asks_nothing, asks_set_up, asks_operation, asked, cycle_of}
+use Rattle.steps.specs.Session.{Session, Fresh, Running, Done, unless_refused, set_up_refusal, memory_of, behind, operation_done, done_by, frame_done, line_by, line_done, lines_done, from_start, answer_after}
+use Rattle.steps.specs.Past.{Past, nothing, since, more, past_by_asked, past_by, past_in, Keeps, Brings}
 
 -- a memory just set up, over any store
 abbrev new : Shape → (first : List ℕ) → Memory
@@ -56,7 +58,7 @@ module _ {sh : Shape} {history : History} {session : Session} {store : List ℕ}
   remembers history =
       let e : set_up_refusal sh ≡ Accepted = h.accepted in
       let fine : shape_refusal sh ≡ Accepted = search checks in
-      after_any_history sh fine h.first h.whole history
+      recall_law sh fine h.first h.whole history
 
   before : Remembers sh history (memory_of h.state store)
   before = rw h.memory (remembers history)
@@ -73,9 +75,9 @@ module _ {sh : Shape} {history : History} {session : Session} {store : List ℕ}
       let memory = memory_of h.state store in
       let part = store_after memory op in
       let rest = behind h.state store in
-      let size : length part ≡ store_size sh = (then op).size in
+      let size : length part ≡ store_size sh = (then op).agrees.size in
       let front : take (store_size (outcome_of memory op).state.shape) (part ++ rest) ≡ part =
-      rw (then op).shape (take_at part rest (store_size sh) size) in
+      rw (then op).agrees.of_shape (take_at part rest (store_size sh) size) in
       let stepped : step memory op ≡ run (new sh h.first) (same ∷ history) =
       ap (λ (m : Memory). step m op) h.memory ∙ ap (λ (o : Operation). step (run (new sh h.first) history) o) q in
       let left : Left sh (same ∷ history) (Running (outcome_of memory op).state) (part ++ rest) = record {
@@ -86,54 +88,57 @@ module _ {sh : Shape} {history : History} {session : Session} {store : List ℕ}
         is = refl;
         memory = rw front stepped;
       } in
-      (left, length_front store part (store_size h.state.shape) (size ∙ sym before.size))
+      (left, length_front store part (store_size h.state.shape) (size ∙ sym before.agrees.size))
 
 -- ---- one line
 
-module _ (session : Session) (store : List ℕ) (size : length store ≡ most_store) where
-  abbrev Kept : Past → After → Type 0
-  Kept past after = Has past after.session after.store × (length after.store ≡ most_store)
+module _ (session : Session) (store : List ℕ) (size : length store ≡ MOST_STORE) where
+  abbrev Kept : Past → Done → Type 0
+  Kept past done = Has past done.session done.store × (length done.store ≡ MOST_STORE)
 
   -- a verdict
-  by_verdict : (past next : Past) (v : Verdict) (first : ℕ) (after : After) → Has past session store → (v ≡ Accepted → Kept next after)
-      → Kept (if_refused past next v) (unless_refused v session store first after)
-  by_verdict past next Accepted first after h k = k refl
-  by_verdict past next (Err refusal) first after h k = (h, size)
+  by_verdict : (past next : Past) (v : Verdict) (done : Done) → Has past session store → (v ≡ Accepted → Kept next done)
+      → Kept (if_refused past next v) (unless_refused v session store done)
+  by_verdict past next Accepted done h k = k refl
+  by_verdict past next (Err refusal) done h k = (h, size)
 
   -- whatever the store then holds
-  set_up : (sh : Shape) (s : List ℕ) → length s ≡ most_store → set_up_refusal sh ≡ Accepted
-      → Has (since sh []) (Running (set_up_of sh).state) s × (length s ≡ most_store)
+  set_up : (sh : Shape) (s : List ℕ) → length s ≡ MOST_STORE → set_up_refusal sh ≡ Accepted
+      → Has (since sh []) (Running (set_up_of sh).state) s × (length s ≡ MOST_STORE)
   unfolding set_up_refusal
   set_up sh s all e =
       let fine : shape_refusal sh ≡ Accepted = search checks in
-      let small : store_size sh ≤ most_store = search (checks, leb-true) in
+      let small : store_size sh ≤ MOST_STORE = search (checks, leb-true) in
       let part = (memory_of (set_up_of sh).state s).store in
       let whole : length part ≡ store_size sh = rw fine (length-take-le (store_size sh) s (omega arith)) in
       (record { accepted = e; first = part; whole = whole; state = (set_up_of sh).state; is = refl; memory = refl }, all)
 
-  operation : (past : Past) → Has past session store → (kind : ℕ) (ask : Shape → Operation) → Kept (more ask past) (operation_done session store kind ask)
-  operation nothing h kind ask = rw h (refl, size)
-  operation (since sh history) h kind ask =
-      let l = left_by h (ask h.state.shape) (ask sh) (ap ask (before h).shape) in
+  operation : (past : Past) → Has past session store → (ask : Shape → Operation) → Kept (more ask past) (operation_done session store ask)
+  operation nothing h ask = rw h (refl, size)
+  operation (since sh history) h ask =
+      let l = left_by h (ask h.state.shape) (ask sh) (ap ask (before h).agrees.of_shape) in
       rw h.is (l.0, l.1 ∙ size)
 
-  by_frame : (past : Past) → Has past session store → (bytes : List ℕ) (frame : Frame)
-      → Kept (past_by_frame past bytes frame) (frame_done session store bytes frame)
-  unfolding frame_done
-  by_frame past h bytes (SetUp sh) =
-      by_verdict past (since sh []) (set_up_refusal sh) (answer_byte 1) _ h (set_up sh _ (omega (arith, length-replicate {A = ℕ} (length store) 0, size)))
-  by_frame past h bytes (Write row) = operation past h 2 (λ sh. write row (drop 2 bytes))
-  by_frame past h bytes (Release row) = operation past h 3 (λ sh. release row)
-  by_frame past h bytes Read = operation past h 4 (cycle_of (drop 1 bytes))
-  by_frame past h bytes Unknown = (h, size)
+  by_asked : (past : Past) → Has past session store → (ask : Asked) → Kept (past_by_asked past ask) (done_by session store ask)
+  by_asked past h asks_nothing = (h, size)
+  by_asked past h (asks_set_up sh) =
+      by_verdict past (since sh []) (set_up_refusal sh) _ h (set_up sh _ (omega (arith, length-replicate {A = ℕ} (length store) 0, size)))
+  by_asked past h (asks_operation ask) = operation past h ask
 
-  by_line : (past : Past) → Has past session store → (line : List ℕ) → Kept (past_by past line) (line_done session store line)
-  unfolding past_by
-  by_line past h line = by_verdict past _ (line_refusal line) no_frame_byte _ h (λ e. by_frame past h (bytes_of line) (frame_of (bytes_of line)))
+  by_line : (past : Past) → Has past session store → (line : List ℕ)
+      → let after = line_done session store line in Has (past_by past line) after.session after.store × (length after.store ≡ MOST_STORE)
+  unfolding past_by frame_done line_done
+  by_line past h line = go (line_refusal line)
+    where
+      go : (v : Verdict) → let frame = if_refused unknown (frame_of (bytes_of line)) v in
+          let after = line_by v session store (bytes_of line) in
+          Has (past_by_asked past (asked frame)) after.session after.store × (length after.store ≡ MOST_STORE)
+      go Accepted = by_asked past h (asked (frame_of (bytes_of line)))
+      go (Err refusal) = (h, size)
 
 -- ---- all lines
 
-by_lines : (session : Session) (store : List ℕ) → length store ≡ most_store → (past : Past) → Has past session store → (lines : List (List ℕ))
+by_lines : (session : Session) (store : List ℕ) → length store ≡ MOST_STORE → (past : Past) → Has past session store → (lines : List (List ℕ))
     → let after = lines_done session store lines in Has (past_in past lines) after.session after.store
 unfolding lines_done past_in
 by_lines session store size past h [] = h
@@ -149,7 +154,7 @@ keeps (since sh history) session store h = (h.state, h.is, before h)
 pub kept : (lines : List (List ℕ)) → Keeps (past_in nothing lines) (from_start lines).session (from_start lines).store
 kept lines =
     keeps (past_in nothing lines) (from_start lines).session (from_start lines).store
-    (by_lines Fresh (zeros most_store) (length-replicate {A = ℕ} most_store 0) nothing refl lines)
+    (by_lines Fresh (zeros MOST_STORE) (length-replicate {A = ℕ} MOST_STORE 0) nothing refl lines)
 
 -- ---- what a 04 that is served brings
 
@@ -157,43 +162,49 @@ kept lines =
 behind_two : (a b : ℕ) (packets : List ℕ) (at p : ℕ) → cell (a ∷ b ∷ packets) (2 + at) p ≡ cell packets at p
 behind_two a b packets at p = let e : 2 + at ≡ suc (suc at) = omega arith in rw e
 
-said_packets : (sh : Shape) (history : History) (reads packets : List ℕ) (answer : Result Answer Refusal) → answer ≡ Ok Served → length packets ≡ read_count reads * sh.p
-    → ((n : ℕ) → n < read_count reads
-    → cell packets (n * sh.p) sh.p ≡ packet_in sh (last_written sh history (row reads n)) (group reads n) (symbol reads n))
-    → Brings sh history reads (answer_byte 4 ∷ said packets answer)
-said_packets sh history reads packets answer e size each =
-    rw e (record { served = refl; size = omega arith; packets = λ n l. behind_two (answer_byte 4) 0 packets (n * sh.p) sh.p ∙ each n l })
+said_packets : (sh : Shape) (history : History) (list packets : List ℕ) (answer : Result Answer Refusal) → answer ≡ Ok Served → length packets ≡ length (reads_in list) * sh.p
+    → ((n : ℕ) → n < length (reads_in list)
+    → cell packets (n * sh.p) sh.p ≡ (let name = read_at (reads_in list) n in packet_in sh (last_written sh history name.row) name.group name.symbol))
+    → Brings sh history list (first_byte (read list) ∷ said packets answer)
+said_packets sh history list packets answer e size each =
+    rw e (record { served = refl; size = omega arith; packets = λ n l. behind_two (first_byte (read list)) 0 packets (n * sh.p) sh.p ∙ each n l })
 
 -- the output is as long as it was
 as_long : (st : State) (s reads out schedule : List ℕ) → length (cycle_output st s reads out schedule) ≡ length out
 as_long st s reads out schedule = go (cycle_refusal st (length s) reads (length out) (length schedule))
   where
-    go : (v : Verdict) → length (if_refused out (packets_out st.shape s reads out) v) ≡ length out
-    go Accepted = length_each st.shape.p (packet_of st.shape s reads) (read_count reads) out
+    go : (v : Verdict) → length (if_refused out (packets_out st.shape (plans_of st.shape.k (reads_in reads)) s (reads_in reads) out) v) ≡ length out
+    go Accepted = length_each st.shape.p (packet_of st.shape (plans_of st.shape.k (reads_in reads)) s (reads_in reads)) (length (reads_in reads)) out
     go (Err refusal) = refl
 
-brings : (sh : Shape) (history : History) (session : Session) (store line : List ℕ) → Keeps (since sh history) session store
-    → line_refusal line ≡ Accepted → frame_of (bytes_of line) ≡ Read
-    → let reads = drop 1 (bytes_of line) in
-    verdict_in sh (full_in sh history) (cycle_of reads sh) ≡ Accepted → Brings sh history reads (line_done session store line).answer
-unfolding frame_done
-brings sh history session store line k fine read v =
+-- a line that is a frame is not refused
+framed : (line list : List ℕ) → frame_in line ≡ read list → (line_refusal line ≡ Accepted) × (frame_of (bytes_of line) ≡ read list)
+framed line list e = go (line_refusal line) e
+  where
+    go : (v : Verdict) → if_refused unknown (frame_of (bytes_of line)) v ≡ read list → (v ≡ Accepted) × (frame_of (bytes_of line) ≡ read list)
+    go Accepted e = (refl, e)
+    go (Err refusal) e = absurd (cc)
+
+brings : (sh : Shape) (history : History) (session : Session) (store line list : List ℕ) → Keeps (since sh history) session store
+    → frame_in line ≡ read list → verdict_in sh history (cycle_of list sh) ≡ Accepted
+    → Brings sh history list (line_done session store line).answer
+unfolding frame_done line_done
+brings sh history session store line list k is v =
     let st = k.0 in
     let r = k.2 in
-    let reads = drop 1 (bytes_of line) in
-    let op = cycle_of reads st.shape in
-    let w : verdict_in sh (full_in sh history) op ≡ Accepted = rw r.shape v in
+    let op = cycle_of list st.shape in
+    let w : verdict_in sh history op ≡ Accepted = rw r.agrees.of_shape v in
     let served : (outcome_of (memory_of st store) op).answer ≡ Ok Served = r.answers op ∙ ap (answer_by Served) w in
-    let many = read_count reads * st.shape.p in
+    let many = length (reads_in list) * st.shape.p in
     let out : List ℕ = zeros many in
-    let schedule : List ℕ = zeros (read_count reads * 2) in
-    let size : length (cycle_output st (memory_of st store).store reads out schedule) ≡ read_count reads * sh.p =
-    as_long st (memory_of st store).store reads out schedule ∙ length-replicate {A = ℕ} many 0 ∙ ap (λ (s : Shape). read_count reads * s.p) r.shape in
-    rw (fine, read, k.1) (said_packets sh history reads _ _ served size (λ n l. (r.returns reads out schedule served n l).1.packet))
+    let schedule : List ℕ = zeros (length (reads_in list) * 2) in
+    let size : length (cycle_output st (memory_of st store).store list out schedule) ≡ length (reads_in list) * sh.p =
+    as_long st (memory_of st store).store list out schedule ∙ length-replicate {A = ℕ} many 0 ∙ ap (λ (s : Shape). length (reads_in list) * s.p) r.agrees.of_shape in
+    let f = framed line list is in
+    rw (f.0, f.1, k.1) (said_packets sh history list _ _ served size (λ n l. (r.returns list out schedule served n l).1.packet))
 
-pub returned : (lines : List (List ℕ)) (line : List ℕ) (sh : Shape) (history : History) → past_in nothing lines ≡ since sh history
-    → line_refusal line ≡ Accepted → frame_of (bytes_of line) ≡ Read
-    → let reads = drop 1 (bytes_of line) in
-    verdict_in sh (full_in sh history) (cycle_of reads sh) ≡ Accepted → Brings sh history reads (answer_after lines line)
-returned lines line sh history e =
-    brings sh history (from_start lines).session (from_start lines).store line (rw e at (kept lines))
+pub returned : (lines : List (List ℕ)) (line : List ℕ) (sh : Shape) (history : History) (list : List ℕ)
+    → past_in nothing lines ≡ since sh history → frame_in line ≡ read list
+    → verdict_in sh history (cycle_of list sh) ≡ Accepted → Brings sh history list (answer_after lines line)
+returned lines line sh history list e =
+    brings sh history (from_start lines).session (from_start lines).store line list (rw e at (kept lines))

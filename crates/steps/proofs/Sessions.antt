@@ -13,9 +13,11 @@ use Rattle.lines.specs.declared.reader.Reader.{Reader}
 use Rattle.lines.specs.Lines.{line_feed, lines_of, first_line, line_at}
 use Rattle.lines.specs.Hex.{char0, small_a, digit_of, digits_of}
 use Rattle.lines.proofs.Lines.{the_lines}
-use Rattle.frames.specs.Frames.{printed}
+use Rattle.frames.specs.declared.TheConstants.{MOST_STORE}
+use Rattle.frames.specs.Printing.{printed}
 use Rattle.steps.specs.declared.Next.{Next}
-use Rattle.steps.specs.Session.{Session, Fresh, most_text, most_store, AfterLines, line_done, and_then, lines_done, text_read, text_done}
+use Rattle.steps.specs.declared.TheConstants.{MOST_TEXT}
+use Rattle.steps.specs.Session.{Session, Fresh, AfterLines, line_done, and_then, lines_done, text_read, text_done}
 use Rattle.steps.specs.Steps.{AnswersLine}
 use Rattle.steps.specs.Laws.{TheSession}
 use Rattle.steps.proofs.Kept.{kept, returned}
@@ -72,8 +74,8 @@ pub the_session : TheSession
 the_session = record {
   next = next;
   none = none;
-  one = λ input. line_each Fresh (zeros most_store) (text_read input);
-  each = λ input. in_order Fresh (zeros most_store) (text_read input);
+  one = λ input. line_each Fresh (zeros MOST_STORE) (text_read input);
+  each = λ input. in_order Fresh (zeros MOST_STORE) (text_read input);
   kept = kept;
   returned = returned;
 }
@@ -105,8 +107,8 @@ module _ {session : Session} {store : List ℕ} {reader : Reader} {out : List �
   same_room = let p = a.line.line in (rw p.output (length_put out 0 _), rw p.len p.room)
 
 -- at the end of what is read of a text
-pub at_last : (begun : Session) (first input : List ℕ) (session : Session) (store text : List ℕ) (at printed : ℕ) → text ≡ take most_text input → length text ≤ at
-    → Ahead (lines_done begun first (lines_of (take most_text input))) (lines_done session store (lines_of (drop at text))) printed
+pub at_last : (begun : Session) (first input : List ℕ) (session : Session) (store text : List ℕ) (at printed : ℕ) → text ≡ take MOST_TEXT input → length text ≤ at
+    → Ahead (lines_done begun first (lines_of (take MOST_TEXT input))) (lines_done session store (lines_of (drop at text))) printed
     → let all = text_done begun first input in (session ≡ all.session) × (printed ≡ length all.output) × (store ≡ all.store)
 at_last begun first input session store text at printed e h a =
     let end : Ahead (text_done begun first input) (record { session = session; store = store; output = [] }) printed = rw (← none session store text at h) a in

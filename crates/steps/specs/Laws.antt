@@ -1,13 +1,13 @@
 -- The laws of the session file.
-use Rattle.std.specs.Prelude.{◌≡◌, List, [], ℕ, ◌≤◌, ◌<◌, length, get_or, take, drop}
+use Rattle.std.specs.Prelude.{◌≡◌, List, [], ℕ, ◌≤◌, ◌<◌, length, slice_index_or, take, drop}
 use Rattle.refusals.specs.Verdict.{Accepted}
 use Rattle.layout.specs.declared.Shape.{Shape}
-use Rattle.memory.specs.History.{History, verdict_in, full_in}
+use Rattle.memory.specs.History.{History, verdict_in}
 use Rattle.lines.specs.Lines.{lines_of, first_line, line_at}
-use Rattle.lines.specs.Hex.{bytes_of, digits_of}
-use Rattle.frames.specs.declared.Frame.TheVariants.{Read}
-use Rattle.frames.specs.Frames.{line_refusal, frame_of}
-use Rattle.steps.specs.Session.{Session, cycle_of, line_done, and_then, lines_done, text_read, from_start, answer_after, session_of}
+use Rattle.lines.specs.Hex.{digits_of}
+use Rattle.frames.specs.Frame.{read, frame_in}
+use Rattle.steps.specs.Asked.{cycle_of}
+use Rattle.steps.specs.Session.{Session, line_done, and_then, lines_done, text_read, from_start, answer_after, session_of}
 use Rattle.steps.specs.Past.{nothing, since, past_in, Keeps, Brings}
 
 -- next: what the lines from an index of a text on do is what the line that a reader finds there does, and then what those behind it do.
@@ -24,9 +24,9 @@ pub record TheSession : Type 0 where
       → lines_done session store (lines_of (drop at text)) ≡ record { session = session; store = store; output = [] }
   pub one : (input : List ℕ) → length (lines_of (session_of input)) ≡ length (text_read input)
   pub each : (input : List ℕ) (n : ℕ) → n < length (text_read input)
-      → get_or (lines_of (session_of input)) n [] ≡ digits_of (answer_after (take n (text_read input)) (get_or (text_read input) n []))
+      → slice_index_or (lines_of (session_of input)) n []
+      ≡ digits_of (answer_after (take n (text_read input)) (slice_index_or (text_read input) n []))
   pub kept : (lines : List (List ℕ)) → Keeps (past_in nothing lines) (from_start lines).session (from_start lines).store
-  pub returned : (lines : List (List ℕ)) (line : List ℕ) (sh : Shape) (history : History) → past_in nothing lines ≡ since sh history
-      → line_refusal line ≡ Accepted → frame_of (bytes_of line) ≡ Read
-      → let reads = drop 1 (bytes_of line) in
-      verdict_in sh (full_in sh history) (cycle_of reads sh) ≡ Accepted → Brings sh history reads (answer_after lines line)
+  pub returned : (lines : List (List ℕ)) (line : List ℕ) (shape : Shape) (history : History) (list : List ℕ)
+      → past_in nothing lines ≡ since shape history → frame_in line ≡ read list
+      → verdict_in shape history (cycle_of list shape) ≡ Accepted → Brings shape history list (answer_after lines line)

@@ -1,4 +1,5 @@
 -- The definitions of the crate: sessions.
+pub mod Asked
 pub mod Session
 pub mod Steps
 pub mod Parts

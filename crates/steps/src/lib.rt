@@ -2,20 +2,19 @@
 #![tactic(auto)]
 
 ghost use Rattle.std.specs.Prelude.{◌≡◌, List, ◌∷◌, ℕ, ◌*◌, ◌≤◌, ◌<◌, min, length};
-ghost use Rattle.memory.specs.History.{write, release};
-ghost use Rattle.frames.specs.Frames.{most_frame, frame_of, answer_byte, first_byte, said};
-ghost use Rattle.frames.specs.Printing.{Fits, Prints};
-ghost use Rattle.steps.specs.Session.{Session, Running, most_store, set_up_refusal, set_up_done, operation_done, cycle_of, frame_done, line_done};
+ghost use Rattle.frames.specs.Frame.{set_up, write, release, read, shown, first_byte};
+ghost use Rattle.frames.specs.Printing.{said, Fits, Prints};
+ghost use Rattle.steps.specs.Session.{Session, Running, set_up_refusal, frame_done, line_done};
 ghost use Rattle.steps.specs.Laws.{TheSession};
 ghost use Rattle.steps.specs.Steps.{Gives, Answers};
-ghost use Rattle.steps.specs.Parts.{lent_size, Tries};
+ghost use Rattle.steps.specs.Parts.{lent_size, FewReads, Tries};
 
 use frames::{Frame, MOST_FRAME, MOST_OUTPUT, MOST_STORE};
 use layout::{Geometry, Shape};
 use lines::hex;
 use lines::reader::Reader;
-use memory::{Answer, State};
-use refusals::{Reason, Refusal, Verdict, check, refused};
+use memory::State;
+use refusals::{Answer, Reason, Refusal, Verdict, check, refused};
 
 // The bytes that a session reads.
 pub const MOST_TEXT: usize = 32768;
@@ -26,9 +25,9 @@ const MOST_SCHEDULE: usize = MOST_FRAME / 3 * 2;
 // What a session has from line to line, beside its store: the memory of the last accepted 01, if there was one.
 pub type Session = Option<State>;
 
-// What a line gives, or a text: the session, and how long its output is. A session goes into a step by value and comes back from it, since the
-// project's rules name this form for a state. The output stands in the caller's array, since no heap is asked for: the
-// length says how much of the array it is, as `Prints` does.
+// What a line gives, or a text: the session, and how long its output is. A session goes into a step by value and comes back from it, since
+// the project's rules name this form for a state. The output stands in the caller's array, since no heap is asked for: the length says how
+// much of the array it is, as `Prints` does.
 #[derive(Clone, Copy, Debug, PartialEq, Eq)]
 pub struct Reply {
     pub session: Session,
@@ -42,41 +41,44 @@ pub struct Next<'a> {
     pub reader: Reader<'a>,
 }
 
-// Carries the laws of a session. It does nothing.
+// Carries the laws of a session, and how much of a text it reads. It does nothing.
 #[tactic(auto, using(crate::proofs::Sessions::the_session))]
 pub fn the_session()
-    ensures { TheSession }
+    ensures session { TheSession }
+    ensures text { MOST_TEXT ≡ 32768 }
 {}
 
 // Prints the answer to a frame, with these packets if it is a cycle that is served. The session goes on as given.
 // Store and output stand apart, here and below: what a struct of the two leaves in them, a clause could say only as `exit.1.0.now`.
 fn answer(
     session: Session,
-    frame: Frame,
+    frame: Frame<'_>,
     answer: Result<Answer, Refusal>,
     packets: &[u8],
     out: &mut [u8; MOST_OUTPUT],
 ) -> Reply
     requires fits { Fits answer }
-    requires room { length packets.now ≤ most_store }
+    requires room { length packets.now ≤ MOST_STORE }
     ensures session { result.session ≡ session }
-    ensures line { Prints (first_byte frame ∷ said packets.now answer) out.old result.len out.new }
+    ensures line { let bytes = first_byte (shown frame.entry) ∷ said packets.now answer in
+        Prints bytes out.old result.len out.new }
 {
-    let len = frames::print_answer(frame.first_byte(), answer, packets, out);
+    let len = frames::print_answer(frame, answer, packets, out);
     Reply { session, len }
 }
 
-// How many bytes of the session's store a memory of this shape is lent: as many as it needs, if there are so many; of no memory's shape, none.
+// How many bytes of the session's store a memory of this shape is lent: as many as it needs, if there are so many; of no memory's shape,
+// none.
 #[tactic(auto, unfolding(crate::specs::Parts::lent_size))]
 fn lent_size(shape: Shape) -> usize
-    ensures { result ≡ min (lent_size shape) most_store }
+    ensures { result ≡ min (lent_size shape) MOST_STORE }
 {
     Geometry::try_from(shape).map_or(0, |geometry| geometry.store_size().min(MOST_STORE))
 }
 
 // The bytes of so many packets of p bytes, if there is room for them.
 fn packets_size(count: usize, p: usize) -> usize
-    ensures { result ≡ min (count * p) most_store }
+    ensures { result ≡ min (count * p) MOST_STORE }
 {
     count.saturating_mul(p).min(MOST_STORE)
 }
@@ -92,13 +94,14 @@ fn judge_set_up(shape: Shape) -> Verdict
 }
 
 // Frame 01, or its refusal.
-#[tactic(auto, using(crate::proofs::Fitting::set_up_place, crate::proofs::Fitting::set_up_banks, crate::proofs::Fitting::set_up_limit, crate::proofs::Fitting::set_up_range))]
+#[tactic(auto, using(crate::proofs::Fitting::set_up_fits), unfolding(crate::specs::Session::frame_done))]
 fn try_set_up(
     shape: Shape,
     store: &mut [u8; MOST_STORE],
     out: &mut [u8; MOST_OUTPUT],
 ) -> Result<Reply, Refusal>
-    ensures { (s : Session) → Tries (set_up_done s store.old shape) s store.old out.old (answer_byte 1) result store.new out.new }
+    ensures { (session : Session)
+        → Tries session store.old out.old (set_up shape) result store.new out.new }
 {
     judge_set_up(shape)?;
     cells::clear(store);
@@ -123,18 +126,20 @@ fn do_write(
     store: &mut [u8; MOST_STORE],
     out: &mut [u8; MOST_OUTPUT],
 ) -> Reply
-    ensures { Gives (operation_done (Running state) store.old 2 (λ sh. write row packets.now)) out.old result store.new out.new }
+    ensures { let after = frame_done (Running state) store.old (write row packets.now) in
+        Gives after out.old result store.new out.new }
 {
     let lent = lent_size(state.shape);
     let outcome = state.write(&mut store[..lent], row, packets);
-    let frame = Frame::Write(row);
+    let frame = Frame::Write(row, packets);
     answer(Some(outcome.state), frame, outcome.answer, &[], out)
 }
 
 // Frame 03.
-#[tactic(auto, using(crate::proofs::Fitting::fits_release))]
+#[tactic(auto, using(crate::proofs::Fitting::fits_release), unfolding(crate::specs::Session::frame_done))]
 fn do_release(state: State, row: usize, out: &mut [u8; MOST_OUTPUT]) -> Reply
-    ensures { (s : List ℕ) → Gives (operation_done (Running state) s 3 (λ sh. release row)) out.old result s out.new }
+    ensures { (store : List ℕ)
+        → Gives (frame_done (Running state) store (release row)) out.old result store out.new }
 {
     let outcome = state.release(row);
     let frame = Frame::Release(row);
@@ -145,28 +150,30 @@ fn do_release(state: State, row: usize, out: &mut [u8; MOST_OUTPUT]) -> Reply
 #[tactic(auto, using(crate::proofs::Fitting::fits_cycle, crate::proofs::Cycles::within))]
 fn do_read(
     state: State,
-    reads: &[u8],
+    list: &[u8],
     store: &[u8; MOST_STORE],
     out: &mut [u8; MOST_OUTPUT],
 ) -> Reply
-    requires { length reads.now < most_frame }
-    ensures { Gives (operation_done (Running state) store.now 4 (cycle_of reads.now)) out.old result store.now out.new }
+    requires { length list.now < MOST_FRAME }
+    ensures { let after = frame_done (Running state) store.now (read list.now) in
+        Gives after out.old result store.now out.new }
 {
     // With room for any list, and a length: no heap is asked for.
     let mut packets = [0u8; MOST_STORE];
     let mut schedule = [0u8; MOST_SCHEDULE];
-    let count = reads.len() / 3;
+    let count = list.len() / 3;
     let size = packets_size(count, state.shape.p);
     let lent = lent_size(state.shape);
     let outcome = state.read_cycle(
         &store[..lent],
-        reads,
+        list,
         &mut packets[..size],
         &mut schedule[..count * 2],
     );
+    let frame = Frame::Read(list);
     answer(
         Some(outcome.state),
-        Frame::Read,
+        frame,
         outcome.answer,
         &packets[..size],
         out,
@@ -174,22 +181,22 @@ fn do_read(
 }
 
 // What a frame does, by its kind, or the refusal before an operation: 1 to 4, 20; 18; 19.
-#[tactic(auto, unfolding(crate::specs::Session::frame_done), using(frames::proofs::Framed::write_long))]
+#[tactic(auto, unfolding(crate::specs::Session::frame_done))]
 fn try_frame(
     session: Session,
-    bytes: &[u8],
+    frame: Frame<'_>,
     store: &mut [u8; MOST_STORE],
     out: &mut [u8; MOST_OUTPUT],
 ) -> Result<Reply, Refusal>
-    requires { (1 ≤ length bytes.now) × (length bytes.now ≤ most_frame) }
-    ensures { let frame = frame_of bytes.now in Tries (frame_done session store.old bytes.now frame) session store.old out.old (first_byte frame) result store.new out.new }
+    requires { FewReads (shown frame) }
+    ensures { Tries session store.old out.old (shown frame.entry) result store.new out.new }
 {
     // By kind, as the project's rules name this form; and by the memory, for 19.
-    match (frames::frame_of(bytes), session) {
+    match (frame, session) {
         (Frame::SetUp(shape), _) => try_set_up(shape, store, out),
-        (Frame::Write(row), Some(state)) => Ok(do_write(state, row, &bytes[2..], store, out)),
+        (Frame::Write(row, packets), Some(state)) => Ok(do_write(state, row, packets, store, out)),
         (Frame::Release(row), Some(state)) => Ok(do_release(state, row, out)),
-        (Frame::Read, Some(state)) => Ok(do_read(state, &bytes[1..], store, out)),
+        (Frame::Read(list), Some(state)) => Ok(do_read(state, list, store, out)),
         (Frame::Unknown, _) => refused(Reason::UnknownFrame, 0),
         (_, None) => refused(Reason::NoMemory, 0),
     }
@@ -198,24 +205,22 @@ fn try_frame(
 // What a frame does, and the line that answers it, refused or not.
 fn do_frame(
     session: Session,
-    bytes: &[u8],
+    frame: Frame<'_>,
     store: &mut [u8; MOST_STORE],
     out: &mut [u8; MOST_OUTPUT],
 ) -> Reply
-    requires { (1 ≤ length bytes.now) × (length bytes.now ≤ most_frame) }
-    ensures { Gives (frame_done session store.old bytes.now (frame_of bytes.now)) out.old result store.new out.new }
+    requires { FewReads (shown frame) }
+    ensures { let after = frame_done session store.old (shown frame.entry) in
+        Gives after out.old result store.new out.new }
 {
-    match try_frame(session, bytes, store, out) {
+    match try_frame(session, frame, store, out) {
         Ok(done) => done,
-        Err(refusal) => {
-            let frame = frames::frame_of(bytes);
-            answer(session, frame, Err(refusal), &[], out)
-        }
+        Err(refusal) => answer(session, frame, Err(refusal), &[], out),
     }
 }
 
 // One step of a session: what a line does with the memory and the store, and the line that answers it, at the front of the output.
-#[tactic(auto, using(crate::proofs::Fitting::line_place, frames::proofs::Framed::decoded))]
+#[tactic(auto, using(crate::proofs::Done::line_fits), unfolding(crate::specs::Session::line_done))]
 pub fn step(
     session: Session,
     line: &[u8],
@@ -228,8 +233,8 @@ pub fn step(
         Ok(()) => {
             let mut bytes = [0u8; MOST_FRAME];
             hex::decode(line, &mut bytes);
-            let len = line.len() / 2;
-            do_frame(session, &bytes[..len], store, out)
+            let frame = frames::frame_of(&bytes[..line.len() / 2]);
+            do_frame(session, frame, store, out)
         }
         Err(refusal) => answer(session, Frame::Unknown, Err(refusal), &[], out),
     }

@@ -8,7 +8,8 @@ use native.Mathlib.Nat.{not-suc-le-zero, le_of_suc-le-suc, eq-or-lt_of_le}
 use native.Mathlib.Omega.{arith}
 use lib.Dec.{T}
 use lib.ListN.{length}
-use Rattle.simplex.specs.Limit.{total}
+use Rattle.std.specs.List.{sum}
+use Rattle.simplex.proofs.Contained.{sum_cons}
 use Rattle.simplex.proofs.Tables.{and_left, and_right}
 use Rattle.table.specs.Table.{Falling}
 
@@ -31,10 +32,11 @@ everywhere f zero most zero = f []
 everywhere f zero most (suc sum) = true
 everywhere f (suc size) most sum = below (suc (min most sum)) (λ x. everywhere (λ c. f (x ∷ c)) size x (sum - x))
 
-pub everywhere_at : (f : List ℕ → Bool) (most : ℕ) (c : List ℕ) → Falling most c → T (everywhere f (length c) most (total c)) → T (f c)
+pub everywhere_at : (f : List ℕ → Bool) (most : ℕ) (c : List ℕ) → Falling most c → T (everywhere f (length c) most (sum c)) → T (f c)
 everywhere_at f most [] h t = t
 everywhere_at f most (x ∷ c) h t =
-    let rest : x + total c - x ≡ total c = omega arith in
+    let rest : x + sum c - x ≡ sum c = omega arith in
+    let all : T (everywhere f (suc (length c)) most (x + sum c)) = rw sum_cons at t in
     everywhere_at (λ (r : List ℕ). f (x ∷ r)) x c h.1
     (subst (λ (s : ℕ). T (everywhere (λ (r : List ℕ). f (x ∷ r)) (length c) x s)) rest
-    (below_at (suc (min most (x + total c))) (λ (y : ℕ). everywhere (λ (r : List ℕ). f (y ∷ r)) (length c) y (x + total c - y)) t x (omega (arith, h.0))))
+    (below_at (suc (min most (x + sum c))) (λ (y : ℕ). everywhere (λ (r : List ℕ). f (y ∷ r)) (length c) y (x + sum c - y)) all x (omega (arith, h.0))))

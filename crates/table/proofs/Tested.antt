@@ -4,25 +4,26 @@ use mathlib.Core.List.{List}
 use Prim.Native.Nat.{ℕ, zero, suc, ◌+◌, ◌-◌}
 use lib.Dec.{T, ltb}
 use lib.ListN.{length, get_or, drop}
-use Rattle.simplex.specs.Shape.{least_symbols, most_symbols, limit_of}
+use Rattle.simplex.specs.declared.TheConstants.{LEAST_SYMBOLS, MOST_SYMBOLS}
+use Rattle.simplex.specs.Shape.{limit_of, is_bank}
 use Rattle.audit.specs.Plan.{is_plan}
 use Rattle.audit.specs.Audit.{all_zero}
-use Rattle.table.specs.Rows.{rows, trie}
+use Rattle.table.specs.declared.rows.TheConstants.{ROWS, TRIE}
 use Rattle.table.specs.Table.{row_of, row_pairs}
 use Rattle.table.proofs.Sweep.{below, everywhere}
 
 -- the walk stays within the trie, and its end within the rows
 abbrev pub inside : List ℕ → ℕ → ℕ → Bool
-inside counts at zero = ltb (at + get_or counts 1 0) (length rows)
+inside counts at zero = ltb (at + get_or counts 1 0) (length ROWS)
 inside counts at (suc n) =
-    ltb (at + get_or counts (suc (suc n)) 0) (length trie) && inside counts (get_or trie (at + get_or counts (suc (suc n)) 0) 0) n
+    ltb (at + get_or counts (suc (suc n)) 0) (length TRIE) && inside counts (get_or TRIE (at + get_or counts (suc (suc n)) 0) 0) n
 
 unfoldable pub row_fits : ℕ → List ℕ → Bool
-row_fits K counts = inside counts (get_or trie (K - least_symbols) 0) (K - 2) && is_plan K counts (row_pairs (row_of K counts) counts)
+row_fits K counts = inside counts (get_or TRIE (K - LEAST_SYMBOLS) 0) (K - 2) && is_plan (is_bank K) counts (row_pairs (row_of K counts) counts)
 
 abbrev pub test_of : ℕ → Bool
-test_of K = everywhere (λ c. not (all_zero (drop K c)) || row_fits K c) most_symbols (limit_of K) (limit_of K)
+test_of K = everywhere (λ c. not (all_zero (drop K c)) || row_fits K c) MOST_SYMBOLS (limit_of K) (limit_of K)
 
-pub test : T (below (suc most_symbols - least_symbols) (λ n. test_of (n + least_symbols)))
-unfolding row_fits is_plan row_of rows trie
+pub test : T (below (suc MOST_SYMBOLS - LEAST_SYMBOLS) (λ n. test_of (n + LEAST_SYMBOLS)))
+unfolding row_fits is_plan row_of
 test = tt

@@ -1,11 +1,11 @@
 -- A turn answers a line and reads at least a byte; after the last the whole text is done.
 use Rattle.std.proofs.Common.{◌≡◌, ◌≤◌, ℕ, List, length, take, arith, ◌∙◌}
 use Rattle.std.proofs.lemmas.List.{length-take}
-use Rattle.steps.specs.Session.{most_text}
+use Rattle.steps.specs.declared.TheConstants.{MOST_TEXT}
 use Rattle.steps.proofs.Sessions.{and_on, turn, further, same_room, at_last}
 use Rattle.console.proofs.answer.Goals as goal
 
-short : (text read : List ℕ) → read ≡ take most_text text → length read ≤ most_text
+short : (text read : List ℕ) → read ≡ take MOST_TEXT text → length read ≤ MOST_TEXT
 short text read e = rw (e, length-take) (omega arith)
 
 pub overflow_add-len : goal.overflow_add-len

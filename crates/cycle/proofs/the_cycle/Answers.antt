@@ -1,11 +1,15 @@
 -- `cycle::the_cycle` carries the laws of what a cycle puts out.
+use Rattle.reads.specs.Reads.{reads_in}
 use Rattle.reads.proofs.Accepted.{accepts}
+use Rattle.cycle.proofs.Slots.{slot_within, slots_apart}
 use Rattle.cycle.proofs.Lines.{line_is, packet_is}
 use Rattle.cycle.proofs.the_cycle.Goals as goal
 
 pub returns : goal.returns
 returns c = record {
+  within = slot_within;
+  apart = slots_apart;
   lines = line_is;
-  packets = λ sh full s reads out schedule range size e.
-      let a = accepts sh full reads _ _ e in packet_is sh range s reads size a.named a.few out a.out_size;
+  packets = λ shape full store list out schedule range size e.
+      let a = (accepts shape full list _ _ e).1 in packet_is shape range store (reads_in list) size a.named a.few out a.out_size;
 }

@@ -5,21 +5,21 @@ use Rattle.rows.proofs.Writing.{group_spaced}
 use Rattle.rows.proofs.Chunks.{turn, all_put}
 use Rattle.rows.proofs.write_row.Goals as goal
 
-pub loop-x-preserved : goal.loop-x-preserved
-loop-x-preserved c =
-    let t = turn c.args.geometry.in_range c.requires.store_len.1 c.loop-x.invariant c.in-Some.x c.in-Some.packets c.next.new.self (c.in-Some.ensures {u = tt}).steps in
-    t.put _ (c.fill_group.ensures ∙ rw c.spacing_of.ensures (sym (group_spaced c.args.geometry.shape c.in-Some.x c.args.row _ c.loop-x.store)))
+pub loop-group-preserved : goal.loop-group-preserved
+loop-group-preserved c =
+    let t = turn c.args.geometry.in_range c.requires.generation_len c.loop-group.invariant c.in-Some.group c.in-Some.packets c.next.new.self (c.in-Some.ensures {u = tt}).steps in
+    t.put _ (c.fill_group.ensures ∙ rw c.spacing_of.ensures (sym (group_spaced c.args.geometry.shape c.in-Some.group c.args.row _ c.loop-group.store)))
 
 pub spacing_of-requires : goal.spacing_of-requires
 spacing_of-requires c =
-    let t = turn c.args.geometry.in_range c.requires.store_len.1 c.loop-x.invariant c.in-Some.x c.in-Some.packets c.next.new.self (c.in-Some.ensures {u = tt}).steps in
+    let t = turn c.args.geometry.in_range c.requires.generation_len c.loop-group.invariant c.in-Some.group c.in-Some.packets c.next.new.self (c.in-Some.ensures {u = tt}).steps in
     (omega (arith, t.there), omega (arith, c.requires.place))
 
 pub fill_group-requires : goal.fill_group-requires
 fill_group-requires c =
-    let t = turn c.args.geometry.in_range c.requires.store_len.1 c.loop-x.invariant c.in-Some.x c.in-Some.packets c.next.new.self (c.in-Some.ensures {u = tt}).steps in
+    let t = turn c.args.geometry.in_range c.requires.generation_len c.loop-group.invariant c.in-Some.group c.in-Some.packets c.next.new.self (c.in-Some.ensures {u = tt}).steps in
     rw c.spacing_of.ensures
-    (fillable _ _ _ c.args.geometry.in_range (omega (arith, t.there)) (omega (arith, c.requires.place)) _ _ t.size (c.loop-x.auto.store ∙ c.requires.store_len.0))
+    (fillable _ _ _ c.args.geometry.in_range (omega (arith, t.there)) (omega (arith, c.requires.place)) _ _ t.size (c.loop-group.auto.store ∙ c.requires.store_len))
 
 pub returns : goal.returns
-returns c = all_put c.args.geometry.in_range c.requires.store_len.1 c.loop-x.invariant c.next.new.self (c.in-None.ensures {u = tt}).steps
+returns c = all_put c.args.geometry.in_range c.requires.generation_len c.loop-group.invariant c.next.new.self (c.in-None.ensures {u = tt}).steps

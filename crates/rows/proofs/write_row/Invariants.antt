@@ -2,5 +2,5 @@
 use Rattle.rows.proofs.Chunks.{Turned}
 use Rattle.rows.proofs.write_row.Given as goal
 
-abbrev pub invariant-loop-x : goal.invariant-loop-x
-invariant-loop-x l = Turned l.geometry.shape l.row l.generation l.fn.store l.store l.x-iterator
+abbrev pub invariant-loop-group : goal.invariant-loop-group
+invariant-loop-group l = Turned l.geometry.shape l.row l.generation l.fn.store l.store l.group-iterator

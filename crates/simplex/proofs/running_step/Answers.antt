@@ -8,9 +8,9 @@ use Rattle.cells.specs.Xor.{xor_bytes}
 use Rattle.cells.proofs.Cells.{length_cell}
 use Rattle.simplex.specs.Shape.{degree_of}
 use Rattle.simplex.specs.Symbols.{highest_of, without_highest}
-use Rattle.simplex.specs.Filling.{spaced}
-use Rattle.simplex.specs.Running.{running_step}
-use Rattle.simplex.proofs.Filling.{spaced_room}
+use Rattle.simplex.specs.Banks.{spaced}
+use Rattle.simplex.specs.Filling.{running_step}
+use Rattle.simplex.proofs.Setting.{spaced_room}
 use Rattle.simplex.proofs.Running.{rest_more, lower, symbol_below}
 use Rattle.simplex.proofs.running_step.Goals as goal
 
@@ -49,27 +49,27 @@ module _ (b h : ℕ) (some : 1 ≤ b) (fits : b < 2 ^ 64) (is : h ≡ highest_of
           → next ≡ running_step p packets (spaced at step) b now
       stepped now next put = put ∙ rw (source, target, rest, size, part, is) refl
 
-pub overflow_shl-h : goal.overflow_shl-h
-overflow_shl-h c = few c.args.b _ (omega (arith, ones_le_self c.args.b)) c.ranges.b.fits c.highest_of-h.ensures
+pub overflow_shl-highest : goal.overflow_shl-highest
+overflow_shl-highest c = few c.args.bank _ (omega (arith, ones_le_self c.args.bank)) c.ranges.bank.fits c.highest_of-highest.ensures
 
-pub overflow_sub-b : goal.overflow_sub-b
-overflow_sub-b c = below c.args.b _ (omega (arith, ones_le_self c.args.b)) c.ranges.b.fits c.highest_of-h.ensures
+pub overflow_sub-bank : goal.overflow_sub-bank
+overflow_sub-bank c = below c.args.bank _ (omega (arith, ones_le_self c.args.bank)) c.ranges.bank.fits c.highest_of-highest.ensures
 
 pub place_of-from-requires : goal.place_of-from-requires
 place_of-from-requires c =
-    from_fits c.args.b _ (omega (arith, ones_le_self c.args.b)) c.ranges.b.fits c.highest_of-h.ensures c.requires.degree c.args.p c.args.banks.at
+    from_fits c.args.bank _ (omega (arith, ones_le_self c.args.bank)) c.ranges.bank.fits c.highest_of-highest.ensures c.requires.degree c.args.p c.args.banks.at
     c.args.banks.step c.requires.room.0 _ c.requires.room.1 (omega arith)
 
 -- by search, so that of a program with another source it is the promise that fails
 pub xor_from-requires-clause-apart : goal.xor_from-requires-clause-apart
 xor_from-requires-clause-apart c =
     let before =
-    ends_before c.args.b _ (omega (arith, ones_le_self c.args.b)) c.ranges.b.fits c.highest_of-h.ensures c.requires.degree c.args.p c.args.banks.at
+    ends_before c.args.bank _ (omega (arith, ones_le_self c.args.bank)) c.ranges.bank.fits c.highest_of-highest.ensures c.requires.degree c.args.p c.args.banks.at
     c.args.banks.step c.requires.room.0 _ _ c.args.packets.now _ c.requires.packet c.packet_of.ensures c.place_of-from.ensures c.place_of-at.ensures in
     search rules
 
 pub returns : goal.returns
 returns c =
-    stepped c.args.b _ (omega (arith, ones_le_self c.args.b)) c.ranges.b.fits c.highest_of-h.ensures c.requires.degree c.args.p c.args.banks.at
+    stepped c.args.bank _ (omega (arith, ones_le_self c.args.bank)) c.ranges.bank.fits c.highest_of-highest.ensures c.requires.degree c.args.p c.args.banks.at
     c.args.banks.step c.requires.room.0 _ _ c.args.packets.now _ c.requires.packet c.packet_of.ensures c.place_of-from.ensures c.place_of-at.ensures _ _
     c.xor_from.ensures

@@ -7,26 +7,26 @@ use Rattle.cells.specs.Cell.{cell, put}
 use Rattle.cells.specs.Xor.{xor_bytes}
 use Rattle.simplex.specs.Shape.{banks_of}
 use Rattle.simplex.specs.Symbols.{has_symbol}
-use Rattle.simplex.specs.Filling.{spaced, Room}
-use Rattle.simplex.specs.Updating.{bank_changed, Updatable}
+use Rattle.simplex.specs.Banks.{spaced, Room, bank_set}
+use Rattle.simplex.specs.Updating.{bank_updated, Updatable}
 use Rattle.simplex.proofs.Tables.{banks_of_lem}
-use Rattle.simplex.proofs.Filling.{spaced_room}
+use Rattle.simplex.proofs.Setting.{spaced_room}
 use Rattle.simplex.proofs.Updating.{systematic_bank, Turned, turned_first, turned_more}
 use Rattle.simplex.proofs.update_symbol.Goals as goal
-use Rattle.simplex.proofs.update_symbol.Goals.{else-loop-b-test, then-loop-b-test+else-b-b-end, then-is_marked, else-is_marked}
+use Rattle.simplex.proofs.update_symbol.Goals.{else-loop-bank-test, then-loop-bank-test+else-bank-bank-end, then-is_marked, else-is_marked}
 
 module _ {k P i at step : ℕ} {store : List ℕ} (u : Updatable k P i at step store) where
   power : 1 * 2 ^ i % 2 ^ 64 ≡ 2 ^ i
-  power = one_shl i 64 (omega (arith, u.symbol, u.symbols.most))
+  power = one_shl i 64 (omega (arith, u.symbol_there, u.symbols.most))
 
   systematic : 2 ^ i ≤ banks_of k
-  systematic = systematic_bank k i u.symbol
+  systematic = systematic_bank k i u.symbol_there
 
   -- a bank lies behind it: the group has two symbols and more
   one_behind : 2 ^ i + 1 ≤ banks_of k
   one_behind =
       let four : 2 ^ 2 ≤ 2 ^ k = pow_mono u.symbols.least in
-      let up : 2 ^ suc i ≤ 2 ^ k = pow_mono u.symbol in
+      let up : 2 ^ suc i ≤ 2 ^ k = pow_mono u.symbol_there in
       omega (arith, pow-suc 2 i, pow_pos i)
 
   room : Room P (spaced at step) (banks_of k) (length store)
@@ -44,11 +44,11 @@ module _ {k P i at step : ℕ} {store : List ℕ} (u : Updatable k P i at step s
 module _ {k i at step : ℕ} {packet store : List ℕ} (u : Updatable k (length packet) i at step store) (b : ℕ) (now next : List ℕ)
     (behind : 2 ^ i < b) (most : b ≤ banks_of k) (same : length now ≡ length store)
     (before : Turned (length packet) i packet (spaced at step) store (b - 1) now) where
-  turned : next ≡ bank_changed (length packet) i (xor_bytes (cell now (spaced at step (2 ^ i)) (length packet)) packet) b (spaced at step b) now
+  turned : next ≡ bank_set (λ b. has_symbol b i) (bank_updated (length packet) i packet (spaced at step) now) (spaced at step) b now
       → Turned (length packet) i packet (spaced at step) store b next
   turned is =
       rw is
-      (turned_more (length packet) i packet (spaced at step) refl (banks_of k) (systematic u) store (room u) (b - 1) b now (omega arith) (omega arith) most same before)
+      (turned_more (length packet) i packet (spaced at step) (banks_of k) store refl (systematic u) (room u) (b - 1) b now (omega arith) (omega arith) most same before)
 
   turned_held : (old own : ℕ) → old ≡ spaced at step (1 * 2 ^ i % 2 ^ 64) → own ≡ spaced at step b → true ≡ has_symbol b i
       → next ≡ put now own (xor_bytes (cell now own (length packet)) (xor_bytes (cell now old (length packet)) packet))
@@ -61,46 +61,46 @@ module _ {k i at step : ℕ} {packet store : List ℕ} (u : Updatable k (length 
 pub place_of-old-requires : goal.place_of-old-requires
 place_of-old-requires c =
     let power = power c.requires in
-    let room = (room c.requires).within (2 ^ c.args.i) (pow_pos c.args.i) (systematic c.requires) in
-    (omega (arith, power, pow_pos c.args.i), rw power (omega (arith, room)))
+    let room = (room c.requires).within (2 ^ c.args.symbol) (pow_pos c.args.symbol) (systematic c.requires) in
+    (omega (arith, power, pow_pos c.args.symbol), rw power (omega (arith, room)))
 
 pub copy_into-requires : goal.copy_into-requires
 copy_into-requires c = omega (arith, within c.requires _ c.place_of-old.ensures)
 
-pub loop-b-init : goal.loop-b-init
-loop-b-init c =
-    let first : 1 * 2 ^ c.args.i % 2 ^ 64 + 1 - 1 ≡ 2 ^ c.args.i = omega (arith, power c.requires) in
+pub loop-bank-init : goal.loop-bank-init
+loop-bank-init c =
+    let first : 1 * 2 ^ c.args.symbol % 2 ^ 64 + 1 - 1 ≡ 2 ^ c.args.symbol = omega (arith, power c.requires) in
     rw first
-    (turned_first (length c.args.packet.now) c.args.i c.args.packet.now (spaced c.args.banks.at c.args.banks.step) refl (banks_of c.args.k) (systematic c.requires) c.args.store.now (room c.requires))
+    (turned_first (length c.args.packet.now) c.args.symbol c.args.packet.now (spaced c.args.banks.at c.args.banks.step) (banks_of c.args.k) c.args.store.now refl (systematic c.requires) (room c.requires))
 
-pub loop-b-preserved : goal.loop-b-preserved
-loop-b-preserved c =
-    let next : c.loop-b.b + 1 - 1 ≡ c.loop-b.b = omega arith in
-    let behind : 2 ^ c.args.i < c.loop-b.b = omega (arith, power c.requires) in
-    let most : c.loop-b.b ≤ banks_of c.args.k = omega (arith, banks_of_lem c.args.k c.group_of-b-end.ensures) in
+pub loop-bank-preserved : goal.loop-bank-preserved
+loop-bank-preserved c =
+    let next : c.loop-bank.bank + 1 - 1 ≡ c.loop-bank.bank = omega arith in
+    let behind : 2 ^ c.args.symbol < c.loop-bank.bank = omega (arith, power c.requires) in
+    let most : c.loop-bank.bank ≤ banks_of c.args.k = omega (arith, banks_of_lem c.args.k c.group_of-bank-end.ensures) in
     rw next
     (elim c.if-is_marked.branch [
-      | then-is_marked w ↦ turned_held c.requires _ _ _ behind most c.loop-b.auto.store c.loop-b.invariant _ _ c.place_of-old.ensures w.place_of.ensures w.if-is_marked.ensures (w.store-is ∙ w.xor_into.ensures)
-      | else-is_marked w ↦ turned_other c.requires _ _ _ behind most c.loop-b.auto.store c.loop-b.invariant w.if-is_marked.ensures w.store-is
+      | then-is_marked w ↦ turned_held c.requires _ _ _ behind most c.loop-bank.auto.store c.loop-bank.invariant _ _ c.place_of-old.ensures w.place_of.ensures w.if-is_marked.ensures (w.store-is ∙ w.xor_into.ensures)
+      | else-is_marked w ↦ turned_other c.requires _ _ _ behind most c.loop-bank.auto.store c.loop-bank.invariant w.if-is_marked.ensures w.store-is
     ])
 
 pub returns : goal.returns
 returns c =
-    let banks = banks_of_lem c.args.k c.group_of-b-end.ensures in
-    let end = c.loop-b.auto.b-end (omega (arith, banks, power c.requires, one_behind c.requires)) in
-    let behind : 2 ^ c.args.i < c.loop-b.b = omega (arith, power c.requires) in
+    let banks = banks_of_lem c.args.k c.group_of-bank-end.ensures in
+    let end = c.loop-bank.auto.bank-end (omega (arith, banks, power c.requires, one_behind c.requires)) in
+    let behind : 2 ^ c.args.symbol < c.loop-bank.bank = omega (arith, power c.requires) in
     let place = spaced c.args.banks.at c.args.banks.step in
-    let all : Turned (length c.args.packet.now) c.args.i c.args.packet.now place c.args.store.now (banks_of c.args.k) c.loop-b-test.store =
-    elim c.loop-b-test.branch [
-      | else-loop-b-test w ↦
-          let last : c.loop-b.b - 1 ≡ banks_of c.args.k = omega (arith, banks, end, w.loop-b-test.false) in
-          rw (w.store-is, ← last) c.loop-b.invariant
-      | then-loop-b-test+else-b-b-end w ↦
-          let last : c.loop-b.b ≡ banks_of c.args.k = omega (arith, banks, end, w.loop-b-test.true) in
+    let all : Turned (length c.args.packet.now) c.args.symbol c.args.packet.now place c.args.store.now (banks_of c.args.k) c.loop-bank-test.store =
+    elim c.loop-bank-test.branch [
+      | else-loop-bank-test w ↦
+          let last : c.loop-bank.bank - 1 ≡ banks_of c.args.k = omega (arith, banks, end, w.loop-bank-test.false) in
+          rw (w.store-is, ← last) c.loop-bank.invariant
+      | then-loop-bank-test+else-bank-bank-end w ↦
+          let last : c.loop-bank.bank ≡ banks_of c.args.k = omega (arith, banks, end, w.loop-bank-test.true) in
           rw (w.store-is, ← last)
           (elim w.if-is_marked.branch [
-            | then-is_marked w' ↦ turned_held c.requires _ _ _ behind (omega (arith, last)) c.loop-b.auto.store c.loop-b.invariant _ _ c.place_of-old.ensures w'.place_of.ensures w'.if-is_marked.ensures (w'.store-is ∙ w'.xor_into.ensures)
-            | else-is_marked w' ↦ turned_other c.requires _ _ _ behind (omega (arith, last)) c.loop-b.auto.store c.loop-b.invariant w'.if-is_marked.ensures w'.store-is
+            | then-is_marked w' ↦ turned_held c.requires _ _ _ behind (omega (arith, last)) c.loop-bank.auto.store c.loop-bank.invariant _ _ c.place_of-old.ensures w'.place_of.ensures w'.if-is_marked.ensures (w'.store-is ∙ w'.xor_into.ensures)
+            | else-is_marked w' ↦ turned_other c.requires _ _ _ behind (omega (arith, last)) c.loop-bank.auto.store c.loop-bank.invariant w'.if-is_marked.ensures w'.store-is
           ])
     ] in
-    c.copy_into.ensures ∙ ap (λ (n : ℕ). put c.loop-b-test.store n c.args.packet.now) (old_place c.requires _ c.place_of-old.ensures) ∙ all.changed
+    c.copy_into.ensures ∙ ap (λ (n : ℕ). put c.loop-bank-test.store n c.args.packet.now) (old_place c.requires _ c.place_of-old.ensures) ∙ all.changed

@@ -1,8 +1,9 @@
 -- What a turn reads stands behind what was read before it, and at the end all has been read that fits.
-use Rattle.std.proofs.Common.{◌≡◌, ℕ, ◌+◌, List, [], ◌∷◌, ◌++◌, Option, None, Some, IfSome, option_map, length, min, take, drop, refl, sym, ap, ◌∙◌, arith, rules, append_assoc, append-nil, length-append, length-take, take_at, drop_at, drop-drop}
+use Rattle.std.proofs.Common.{◌≡◌, ℕ, ◌+◌, List, [], ◌∷◌, ◌++◌, Option, None, Some, IfSome, option_map, length, take, drop, refl, sym, ap, ◌∙◌, arith, rules, append_assoc, append-nil, length-append, length-take, take_at, drop_at, drop-drop}
 use borrow.Rule.Slice.PartMut.{put_mid}
 use Rattle.std.proofs.KnownBytes.{Consumes-trans, Consumes-whole}
 use Rattle.cells.specs.Cell.{put}
+use Rattle.lines.specs.Input.{Fills}
 use Rattle.lines.proofs.input.read_text.Goals as goal
 
 -- what is put at the front of s: as much as there is room for, and then what that leaves of s
@@ -18,7 +19,7 @@ read_next s read next t at n k e f is = rw (is, f, take_at read (drop at s) at (
 
 -- what was read is all that fits
 read_all : (known : Option (List ℕ)) (s t : List ℕ) (n : ℕ) → IfSome (option_map (take (length s)) known) (λ read. (n ≡ length read) × (t ≡ read ++ drop n s))
-    → IfSome known (λ bytes. (n ≡ min (length s) (length bytes)) × (t ≡ put s 0 bytes))
+    → IfSome known (Fills s n t)
 read_all None s t n h = tt
 read_all (Some bytes) s t n h = (h.0 ∙ length-take (length s) bytes, h.1 ∙ rw h.0 (put_front s bytes))
 
