@@ -17,6 +17,10 @@ CYCLE_LINES = 4
 RELEASE = 1 + 4 * CYCLE_LINES
 K_LINES = RELEASE + 1 + CYCLE_LINES
 
+# The shapes that are set up: K, groups, bytes, rows.
+SET_UPS = [(1, 0, 0, 0), (6, 9, 2049, 65), (2, 0, 0, 0), (5, 9, 2049, 65), (2, 1, 0, 0), (5, 8, 2049, 65), (2, 1, 1, 0), (5, 8, 2048, 65), (2, 1, 1, 1), (5, 8, 2048, 64)]
+SET_UP_RANGES = [(2, 5), (1, 8), (1, 2048), (1, 64)]
+
 # The small memory's generations, and its refused cycles: the number, the place, the list, and the lengths of output and schedule.
 SMALL_ROWS = [[0x01, 0x02, 0x04, 0x08], [0x10, 0x20, 0x40, 0x80]]
 SMALL_CYCLES = [(5, 0, "0001000101010001", 9, 9), (6, 0, "0001000101010001", 9, 9), (13, 0, "0001000101010001", 9, 9), (15, 2, "000100010101000102", 9, 9),
@@ -161,6 +165,17 @@ def wrong_cycles(K, lines):
     return wrong
 
 
+# What each set-up prints: its answer, which rows are full, and the shape. Refused, it leaves a state of zeros.
+def set_up_lines():
+    lines = ["set-ups"]
+    for shape in SET_UPS:
+        K, groups, _, _ = shape
+        wrong = [number for number, (n, (low, high)) in enumerate(zip(shape, SET_UP_RANGES), 1) if not low <= n <= high]
+        answer = f"refused {wrong[0]}, place 0" if wrong else f"banks {groups * (2 ** K - 1)}, most reads of a group {2 ** (K - 1)}"
+        lines += [answer, "full 0", "shape " + " ".join(str(n) for n in ((0, 0, 0, 0) if wrong else shape))]
+    return lines
+
+
 # The small memory: K = 2, two groups, packets of one byte, two rows. Bank b of group x keeps row r at byte (x * 3 + b - 1) * 2 + r.
 def small_store():
     cells = [(x, b, r) for x in range(2) for b in range(1, 4) for r in range(2)]
@@ -261,7 +276,7 @@ def are_updates(lines):
     )
 
 
-# The lines that are wrong, of all that is printed: the requests, the counts of each K, the cycles of each K, the small memory, the row sets, and
+# The lines that are wrong, of all that is printed: the requests, the counts of each K, the cycles of each K, the set-ups, the small memory, the row sets, and
 # the updates.
 def wrong_lines(requests, lines):
     tallies = [tally(K) for K in EVERY_K]
@@ -273,9 +288,9 @@ def wrong_lines(requests, lines):
     for n, K in enumerate(EVERY_K):
         wrong += wrong_cycles(K, cycles[K_LINES * n:K_LINES * (n + 1)])
     sets = ["row sets"] + [line for full, rows in SIX_SETS for line in set_lines(full, rows)]
-    small = small_lines()
+    small = set_up_lines() + small_lines()
     after = end + len(small)
-    wrong += [] if lines[end:after] == small else ["the small memory"]
+    wrong += [] if lines[end:after] == small else ["the set-ups or the small memory"]
     wrong += [] if lines[after:after + len(sets)] == sets else ["the row sets"]
     return wrong + ([] if are_updates(lines[after + len(sets):]) else ["the updates"])
 

@@ -33,6 +33,7 @@ pub extern "C" fn exported_{name}({state}, {parameters}) -> usize {{
     match state.{call}.answer {{
         Ok(Answer::FullRows(rows)) => rows,
         Ok(Answer::Served) => 100,
+        Ok(Answer::Ready {{ .. }}) => 150,
         Err(_) => 200,
     }}
 }}

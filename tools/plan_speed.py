@@ -8,7 +8,6 @@ the limit.
 Needs rt and rustc. It works in a scratch directory: a copy of the crates, and a static library over `plan` with the exported functions.
 """
 import pathlib
-import re
 import subprocess
 import tempfile
 
@@ -70,8 +69,13 @@ extern "C" {
     fn proved_read(out: *mut u8, out_len: usize, store: *const u8, store_len: usize, a: usize, b: usize, p: usize);
 }
 
-static TRIE: &[u8] = &[@TRIE@];
-static ROWS: &[u64] = &[@ROWS@];
+#[derive(Clone, Copy)]
+pub struct Pair {
+    a: u8,
+    b: u8,
+}
+
+@ROWS@
 
 struct Plan {
     first: [u8; 16],
@@ -90,9 +94,10 @@ fn plain_plan(k: usize, counts: [usize; 5]) -> Plan {
         return plan;
     }
     let left = (1 << (k - 1)) - counts.iter().sum::<usize>();
-    let (mut ranks, mut sorted, mut starts) = ([0; 5], [0; 5], [0; 5]);
-    for i in 0..k {
-        ranks[i] = (0..k).filter(|&j| counts[i] < counts[j] || counts[i] == counts[j] && j < i).count();
+    let (mut ranks, mut symbols, mut sorted, mut starts) = ([0; 5], [0; 5], [0; 5], [0; 5]);
+    for i in 0..5 {
+        ranks[i] = (0..5).map(|j| usize::from(counts[i] < counts[j] || counts[i] == counts[j] && j < i)).sum();
+        symbols[ranks[i]] = i;
         sorted[ranks[i]] = counts[i];
     }
     sorted[0] += left;
@@ -103,18 +108,29 @@ fn plain_plan(k: usize, counts: [usize; 5]) -> Plan {
     for p in (2..k).rev() {
         at = TRIE[at + sorted[p]] as usize;
     }
-    let row = ROWS[at + sorted[1]];
-    let mut n = 0;
-    for i in 0..k {
-        for j in 0..counts[i] {
-            let p = ranks[i];
-            let digit = (row >> (4 * (starts[p] + j)) & 15) as usize;
-            let bank = digit + (digit >> p << p);
-            let b: usize = (0..k).map(|s| (bank >> ranks[s] & 1) << s).sum();
-            plan.first[n] = (b + (1 << i)) as u8;
-            plan.second[n] = b as u8;
-            n += 1;
+    let row: &[Pair] = match k {
+        2 => &ROWS_OF_2[at + sorted[1]],
+        3 => &ROWS_OF_3[at + sorted[1]],
+        4 => &ROWS_OF_4[at + sorted[1]],
+        _ => &ROWS_OF_5[at + sorted[1]],
+    };
+    let mut names = [0u8; 32];
+    for p in 0..5 {
+        for b in 0..1 << p {
+            names[(1 << p) + b] = names[b] + (1 << symbols[p]);
         }
+    }
+    let (mut places, mut n) = ([0u8; 32], 0);
+    for i in 0..5 {
+        for j in 0..16 {
+            places[n + j] = (starts[ranks[i]] + j) as u8;
+        }
+        n += counts[i];
+    }
+    for m in 0..n {
+        let pair = row[places[m] as usize];
+        plan.first[m] = names[pair.a as usize];
+        plan.second[m] = names[pair.b as usize];
     }
     plan
 }
@@ -218,12 +234,11 @@ fn main() {
 
 def main():
     rows = (ROOT / "crates" / "table" / "src" / "rows.rt").read_text(encoding="utf-8")
-    trie = re.search(r"TRIE: \[u8; \d+\] = \[([\d,\s]*)\]", rows)[1]
-    words = ",".join(re.findall(r"0x[0-9a-f]{16}", rows))
+    rows = rows.replace("use audit::Pair;\n", "")
     with tempfile.TemporaryDirectory() as scratch:
         work = pathlib.Path(scratch)
         archive = build(work, "plan", EXPORTS)
-        (work / "bench.rs").write_text(BENCH.replace("@TRIE@", trie).replace("@ROWS@", words))
+        (work / "bench.rs").write_text(BENCH.replace("@ROWS@", rows))
         subprocess.run(["rustc", "-O", "bench.rs", "-L", archive.parent, "-o", "bench"], cwd=work, check=True)
         subprocess.run(["./bench"], cwd=work, check=True)
 

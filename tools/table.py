@@ -11,7 +11,6 @@ import textwrap
 
 LEAST_SYMBOLS, MOST_SYMBOLS = 2, 5
 CHANCE = {1: 1701240189117242, 2: 321322766291006, 3: 60690031188646, 4: 11462866226986}  # of a step that makes it so much worse, in 2^53
-DIGIT_BITS = MOST_SYMBOLS - 1  # bits of a read in a row: the second bank without the bit of its own symbol
 
 
 class Random:
@@ -79,39 +78,30 @@ def search(K, counts, random, mate):
             mate[x] = v
 
 
-def row(K, counts, mate):
-    """The pairs in the order of a plan, packed: the second bank of read n, without the bit of its symbol, at bit DIGIT_BITS * n."""
-    word = n = 0
-    for i in range(K):
-        for a in range(1, 1 << K):
-            if a >> i & 1 and mate[a] == a ^ 1 << i:
-                b = mate[a]
-                word |= (b % (1 << i) + (b >> i + 1 << i)) << DIGIT_BITS * n
-                n += 1
-    assert n == sum(counts)
-    return word
+def row(K, mate):
+    """The pairs in the order of a plan."""
+    return [(a, mate[a]) for i in range(K) for a in range(1, 1 << K) if a >> i & 1 and mate[a] == a ^ 1 << i]
 
 
 def table():
-    """The rows, K by K, those of one K by the counts of the last symbol first; and the index of each."""
-    rows, index, random = [], {}, Random(1)
+    """The rows of each K by their counts, those with the fewest reads of the last symbol first."""
+    rows, random = {}, Random(1)
     for K in range(LEAST_SYMBOLS, MOST_SYMBOLS + 1):
         total = 1 << K - 1
         mate = [None] + [v ^ 1 for v in range(1, 1 << K)]
         found = {}
         for counts in sorted_requests(total, K, total):
             search(K, counts, random, mate)
-            found[counts] = row(K, counts, mate)
-        for counts in sorted(found, key=lambda c: c[::-1]):
-            index[K, counts] = len(rows)
-            rows.append(found[counts])
-    return rows, index
+            found[counts] = row(K, mate)
+        rows[K] = {counts: found[counts] for counts in sorted(found, key=lambda c: c[::-1])}
+    return rows
 
 
-def trie(index):
+def trie(rows):
     """Where the rows are: entry K - LEAST_SYMBOLS starts the walk, and each count from the last symbol's to symbol 2's leads on from `at` to the
-    entry at + count; the walk ends where adding the count of symbol 1 gives the index of the row."""
-    entries = [0] * (MOST_SYMBOLS - LEAST_SYMBOLS + 1)
+    entry at + count; the walk ends where adding the count of symbol 1 gives the index of the row among those of K."""
+    index = {(K, counts): n for K in rows for n, counts in enumerate(rows[K])}
+    entries = [0] * len(rows)
 
     def node(K, tail):
         symbol = K - 1 - len(tail)
@@ -125,28 +115,39 @@ def trie(index):
             entries[at + c - counts[0]] = node(K, (c,) + tail)
         return at - counts[0]
 
-    for K in range(LEAST_SYMBOLS, MOST_SYMBOLS + 1):
+    for K in rows:
         entries[K - LEAST_SYMBOLS] = node(K, ())
     assert all(0 <= e < 256 for e in entries)
     return entries
 
 
+def stored(K, rows):
+    """The rows of one K as the source has them: each with the counts that it is for."""
+    texts = []
+    for counts, pairs in rows.items():
+        written = [f"({a}, {b})" for a, b in pairs]
+        lines = [" ".join(written[n:n + 8]) for n in range(0, len(written), 8)]
+        inside = f" {lines[0]} " if len(lines) == 1 else "".join(f"\n        {line}" for line in lines) + "\n    "
+        texts.append(f"    // {' '.join(map(str, counts))}\n    row! {{{inside}}},\n")
+    return f"\n// The rows of K = {K}.\npub static ROWS_OF_{K}: [[Pair; {1 << K - 1}]; {len(rows)}] = [\n{''.join(texts)}];\n"
+
+
 def main():
-    rows, index = table()
-    entries = trie(index)
-    notes = [f"K = {K}: {' '.join(map(str, counts))}" for K, counts in index]
-    words = [f"0x{w:016x}" for w in rows]
-    stored = "".join(f"    {w}, // {note}\n" for w, note in zip(words, notes))
+    rows = table()
+    entries = trie(rows)
     crate = pathlib.Path(__file__).parent.parent / "crates" / "table"
 
     (crate / "src" / "rows.rt").write_text(
         "// The stored rows and their trie. Written by tools/table.py; nothing rests on how they were found.\n"
-        "// Statics, because a constant array would be stored anew at each use; and a trie of indices, because it is constant data, without a heap.\n\n"
+        "// Statics, because a constant array would be stored anew at each use; one for each K, so that a row has its pairs and no more. A trie of\n"
+        "// indices, because it is constant data, without a heap.\n\n"
+        "use audit::Pair;\n\n"
+        "// The pairs of a row, as the rules write them.\n"
+        "macro_rules! row {\n    ($(($a:literal, $b:literal))*) => { [$(Pair { a: $a, b: $b }),*] };\n}\n\n"
         "// Where the row of a request is: by the walk of specs/Table.antt.\n"
         f"pub static TRIE: [u8; {len(entries)}] = [\n"
-        + textwrap.fill(", ".join(map(str, entries)) + ",", 99, initial_indent="    ", subsequent_indent="    ") + "\n];\n\n"
-        "// The rows: each with the K and the counts that it is for.\n"
-        f"pub static ROWS: [u64; {len(rows)}] = [\n" + stored + "];\n", encoding="utf-8")
+        + textwrap.fill(", ".join(map(str, entries)) + ",", 99, initial_indent="    ", subsequent_indent="    ") + "\n];\n"
+        + "".join(stored(K, rows[K]) for K in rows), encoding="utf-8")
 
 
 if __name__ == "__main__":

@@ -1,23 +1,26 @@
 -- The audit's answer, from what its parts say.
-use mathlib.Core.Path.{◌≡◌, refl, sym, ap, ◌∙◌}
-use mathlib.Core.Logic.{◌≢◌, ◌↔◌, ⊎_elim}
+use mathlib.Core.Path.{◌≡◌, refl, sym, ap, ◌∙◌, subst}
+use mathlib.Core.Logic.{◌≢◌, ◌↔◌, ◌⊎◌, inl, inr, ⊎_elim}
 use mathlib.Core.Bool.{Bool, true, false, ◌&&◌, and-false, false≢true}
 use mathlib.Core.List.{List, [], ◌∷◌}
 use Prim.Native.Nat.{ℕ, ◌+◌, ◌/◌, ◌%◌, ◌≤◌, ◌<◌}
 use native.Mathlib.Omega.{arith}
 use borrow.Author.Tests.{leb-true, leb-false, eq-eqb, ne_eqb, eqb-true}
 use lib.Dec.{eqb, leb}
-use lib.ListN.{length, get_or}
+use lib.ListN.{length, get_or, drop}
 use Rattle.std.specs.Prelude.{cond, ◌-◌, Option, Ok, Err, Some, None}
 use Rattle.std.specs.Option.{option_eq}
+use Rattle.std.proofs.lemmas.Bool.{false_from_ne_true}
 use Rattle.std.proofs.lemmas.Bool.Decides.{eqb_tells}
-use Rattle.refusals.specs.Verdict.{Verdict, Accepted, between, answer_by}
+use Rattle.refusals.specs.Verdict.{Verdict, Accepted, between, answer_by, verdict_of}
 use Rattle.refusals.proofs.Verdicts.{checks, both, between_words, words_between}
 use Rattle.simplex.specs.declared.TheConstants.{LEAST_SYMBOLS, MOST_SYMBOLS}
 use Rattle.simplex.specs.Shape.{SymbolsInRange, limit_of, is_bank}
 use Rattle.std.specs.List.{sum}
-use Rattle.audit.specs.Plan.{Pair, is_plan}
-use Rattle.audit.specs.Audit.{counts_refusal, pairs_of, rest_of, Yes, No, audit_of, RequestOf, pair_bytes, PlanIn}
+use Rattle.audit.specs.declared.Pair.{Pair}
+use Rattle.audit.specs.Plan.{is_plan}
+use Rattle.audit.specs.Audit.{all_zero, counts_refusal, pairs_of, rest_of, Audited, Yes, No, audit_of, RequestOf, pair_bytes, PlanIn}
+use Rattle.audit.specs.Laws.{WrongCounts}
 use Rattle.audit.proofs.Reading.{sound, complete}
 use Rattle.audit.proofs.Served.{past_limit}
 use Rattle.audit.proofs.Requests.{all_zero_lem, zero_all}
@@ -69,7 +72,34 @@ module _ (room : ℕ) (counts : List ℕ) where
   pub just : (r : Option ℕ) → r ≡ rest_of room counts → option_eq eqb r (Some 0) ≡ eqb room (sum counts)
   just r e = ap (λ (x : Option ℕ). option_eq eqb x (Some 0)) e ∙ zero_is room (sum counts) (leb (sum counts) room) refl
 
+-- ---- refused
+
+-- of an answer by a verdict the verdict is that
+pub verdict_by : {A : Type 0} (value : A) (v : Verdict) → verdict_of (answer_by value v) ≡ v
+verdict_by value Accepted = refl
+verdict_by value (Err refusal) = refl
+
+module _ (K : ℕ) (counts : List ℕ) where
+  pub wrong_counts : WrongCounts K counts (counts_refusal K counts)
+  wrong_counts = record {
+    one = λ out.
+        rw (false_from_ne_true (between LEAST_SYMBOLS MOST_SYMBOLS K)
+        (λ e. let w = between_words LEAST_SYMBOLS MOST_SYMBOLS K e in out (record { least = w.0; most = w.1 }))) refl;
+    eleven = λ range i l some.
+        rw (words_between LEAST_SYMBOLS MOST_SYMBOLS K (range.least, range.most), false_from_ne_true (all_zero (drop K counts)) (λ e. some (all_zero_lem K counts e i l)))
+        refl;
+  }
+
+  pub wrong_audit : (bytes : List ℕ) → WrongCounts K counts (verdict_of (audit_of K counts bytes))
+  unfolding audit_of
+  wrong_audit bytes =
+      subst (WrongCounts K counts) (sym (verdict_by (eqb (length bytes % 2) 0 && is_plan (is_bank K) counts (pairs_of bytes)) (counts_refusal K counts))) wrong_counts
+
 -- ---- yes
+
+yes_or_no : (t : Bool) → (◌≡◌ {A = Audited} (Ok t) Yes) ⊎ (◌≡◌ {A = Audited} (Ok t) No)
+yes_or_no true = inl refl
+yes_or_no false = inr refl
 
 yes_parts : (v : Verdict) (t : Bool) → answer_by t v ≡ Yes → (v ≡ Accepted) × (t ≡ true)
 yes_parts Accepted t e = (refl, cc)
@@ -99,6 +129,10 @@ module _ (K : ℕ) (counts : List ℕ) where
       λ e. let t = tests e in record { request = request n t.0; even = t.1; plan = sound (is_bank K) counts (pairs_of bytes) t.2 },
       λ p. says_yes (accepted p.request) p.even (complete (is_bank K) counts (pairs_of bytes) p.plan),
     )
+
+    pub otherwise : RequestOf K counts → (audit_of K counts bytes ≡ Yes) ⊎ (audit_of K counts bytes ≡ No)
+    unfolding audit_of
+    otherwise r = rw (accepted r) (yes_or_no (eqb (length bytes % 2) 0 && is_plan (is_bank K) counts (pairs_of bytes)))
 
     pub never : limit_of K < sum counts → audit_of K counts bytes ≡ Yes → ⊥
     never h e = false≢true (sym (past_limit K (λ b e. e) counts (pairs_of bytes) h) ∙ (tests e).2)

@@ -7,3 +7,4 @@ pub mod Marks
 pub mod Pairs
 pub mod Walk
 pub mod Answer
+pub mod Storing

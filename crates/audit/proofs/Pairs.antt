@@ -2,7 +2,7 @@
 use mathlib.Core.Path.{◌≡◌, refl, sym, ap, ◌∙◌}
 use mathlib.Core.Bool.{Bool, true}
 use mathlib.Core.List.{List, [], ◌∷◌}
-use Prim.Native.Nat.{ℕ, zero, suc, ◌*◌, ◌/◌, ◌≤◌, ◌<◌}
+use Prim.Native.Nat.{ℕ, zero, suc, ◌+◌, ◌*◌, ◌/◌, ◌≤◌, ◌<◌}
 use native.Mathlib.Nat.{not-suc-le-zero}
 use native.Mathlib.Omega.{arith}
 use lib.Pow.{pow_mono}
@@ -19,7 +19,7 @@ use Rattle.simplex.specs.Limit.{reads_of}
 use Rattle.simplex.proofs.Tables.{banks_of_lem}
 use Rattle.simplex.proofs.Requests.{length_reads}
 use Rattle.audit.specs.Plan.{serves, pair_at}
-use Rattle.audit.specs.Audit.{pairs_of}
+use Rattle.audit.specs.Audit.{pairs_of, pair_in}
 use Rattle.audit.proofs.Reading.{serves_sound, first_to}
 
 -- ---- the tests, and what they say
@@ -42,6 +42,16 @@ pub length_pairs : (bytes : List ℕ) → length (pairs_of bytes) ≡ length byt
 length_pairs [] = refl
 length_pairs (a ∷ []) = refl
 length_pairs (a ∷ b ∷ bytes) = let ih = length_pairs bytes in omega arith
+
+-- pair n, byte by byte
+pub pair_bytes_at : (bytes : List ℕ) (n : ℕ) → n * 2 + 1 < length bytes → pair_at (pairs_of bytes) n ≡ pair_in bytes n
+pair_bytes_at [] n h = absurd (omega arith)
+pair_bytes_at (a ∷ []) n h = absurd (omega arith)
+pair_bytes_at (a ∷ b ∷ bytes) zero h = refl
+pair_bytes_at (a ∷ b ∷ bytes) (suc n) h =
+    let two : suc n * 2 ≡ suc (suc (n * 2)) = omega arith in
+    let three : suc (suc (n * 2)) + 1 ≡ suc (suc (n * 2 + 1)) = omega arith in
+    rw (two, three) (pair_bytes_at bytes n (omega arith))
 
 -- pair n, by chunk n of two bytes
 pub chunk_pair : (bytes : List ℕ) (k n : ℕ) → n < k → 2 * k ≤ length bytes → let chunk = get_or (first_chunks 2 k bytes) n [] in

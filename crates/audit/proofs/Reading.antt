@@ -20,7 +20,8 @@ use Rattle.std.specs.List.{sum, Contains}
 use Rattle.simplex.specs.Limit.{reads_of, start}
 use Rattle.simplex.proofs.Contained.{contains_none, contains_cases, contains_first, contains_other}
 use Rattle.simplex.proofs.Requests.{length_reads}
-use Rattle.audit.specs.Plan.{Pair, opens, opened, serves, serves_all, banks_opened, among, none_twice, is_plan, Serves, pair_at, IsPlan}
+use Rattle.audit.specs.declared.Pair.{Pair}
+use Rattle.audit.specs.Plan.{opens, opened, serves, serves_all, banks_opened, among, none_twice, is_plan, Serves, pair_at, IsPlan}
 use Rattle.audit.specs.Laws.{AreBanks}
 use Rattle.audit.proofs.Places.{place_less, read_at, locate}
 

@@ -19,7 +19,8 @@ use Rattle.simplex.proofs.Limit.{the_limit, fails_yields}
 use Rattle.simplex.proofs.Contained.{contains_none, contains_one, contains_two}
 use Rattle.simplex.proofs.Requests.{length_reads}
 use Rattle.simplex.proofs.Tables.{limit_most}
-use Rattle.audit.specs.Plan.{Pair, no_pair, opens, opened, is_plan, Serves, pair_at, IsPlan}
+use Rattle.audit.specs.declared.Pair.{Pair}
+use Rattle.audit.specs.Plan.{no_pair, opens, opened, is_plan, Serves, pair_at, IsPlan}
 use Rattle.std.proofs.lemmas.List.{get_or-map}
 use Rattle.audit.specs.Laws.{AreBanks}
 use Rattle.audit.proofs.Reading.{serves_at, first_to, second_to, sound}

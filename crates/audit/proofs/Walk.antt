@@ -13,7 +13,8 @@ use Rattle.simplex.specs.Code.{Banks}
 use Rattle.std.specs.List.{sum, Contains}
 use Rattle.simplex.specs.Limit.{reads_of, start}
 use Rattle.simplex.proofs.Contained.{contains_none, contains_first, contains_other, contains_one, contains_two}
-use Rattle.audit.specs.Plan.{Pair, opens, opened, serves, among, is_plan, Serves, pair_at, IsPlan}
+use Rattle.audit.specs.declared.Pair.{Pair}
+use Rattle.audit.specs.Plan.{opens, opened, serves, among, is_plan, Serves, pair_at, IsPlan}
 use Rattle.audit.specs.Audit.{pairs_of}
 use Rattle.audit.proofs.Places.{place_less, read_at}
 use Rattle.audit.proofs.Reading.{serves_sound, serves_complete, serves_at, in_among, among_in, sound, complete}

@@ -2,11 +2,11 @@
 use Rattle.std.specs.Prelude.{◌≡◌, Bool, true, false, ◌&&◌, if◌then◌else◌, List, [], ◌∷◌, ℕ, ◌+◌, ◌-◌, ◌*◌, ◌%◌, ◌≤◌, ◌==◌, nat_le, length, slice_index, drop, sum, Result, Ok, Option, Some, None}
 use Rattle.std.specs.List.{list_all}
 use Rattle.refusals.specs.declared.Refusal.{Refusal}
-use Rattle.refusals.specs.declared.Reason.TheVariants as reason
 use Rattle.refusals.specs.Verdict.{Verdict, between, check, answer_by, ◌then◌}
 use Rattle.simplex.specs.declared.TheConstants.{LEAST_SYMBOLS, MOST_SYMBOLS}
-use Rattle.simplex.specs.Shape.{SymbolsInRange, is_bank}
-use Rattle.audit.specs.Plan.{Pair, is_plan, IsPlan}
+use Rattle.simplex.specs.Shape.{SymbolsInRange, limit_of, is_bank}
+use Rattle.audit.specs.declared.Pair.{Pair}
+use Rattle.audit.specs.Plan.{is_plan, IsPlan}
 
 -- Every count is 0.
 abbrev pub all_zero : List ℕ → Bool
@@ -15,13 +15,18 @@ all_zero counts = list_all (λ c. c == 0) counts
 -- The refusals of a request vector: 1, K is out of its range; 11, a count for a symbol from K on is not 0.
 abbrev pub counts_refusal : ℕ → List ℕ → Verdict
 counts_refusal K counts =
-    check reason.SymbolsOutOfRange 0 (between LEAST_SYMBOLS MOST_SYMBOLS K) then check reason.ForeignCount 0 (all_zero (drop K counts))
+    check 1 0 (between LEAST_SYMBOLS MOST_SYMBOLS K) then check 11 0 (all_zero (drop K counts))
 
 -- A request vector of a group of K symbols, in words: five counts, those from K on being 0.
 pub record RequestOf (K : ℕ) (counts : List ℕ) : Type 0 where
   pub symbols : SymbolsInRange K
   pub size : length counts ≡ MOST_SYMBOLS
   pub beyond : (i : ℕ) → K ≤ i → slice_index counts i ≡ 0
+
+-- A request within the limit: its counts total at most 2^(K-1).
+pub record WithinLimit (K : ℕ) (counts : List ℕ) : Type 0 where
+  pub request : RequestOf K counts
+  pub total_most : sum counts ≤ limit_of K
 
 -- The pairs that bytes stand for, two bytes each: a, then b.
 abbrev pub pairs_of : List ℕ → List Pair

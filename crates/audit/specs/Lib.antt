@@ -1,4 +1,5 @@
--- The definitions of the crate: a plan, and the audit of one.
+-- The definitions of the crate: a plan, its arrays, and the audit of one.
 pub mod Plan
+pub mod Stored
 pub mod Audit
 pub mod Laws

@@ -6,11 +6,7 @@ use Rattle.std.specs.List.{list_any}
 use Rattle.std.specs.Int.Bits.{bit_xor}
 use Rattle.simplex.specs.Code.{Banks}
 use Rattle.simplex.specs.Limit.{reads_of, start}
-
--- A recovery pair (customers say: a pair of bank numbers): the banks that are opened for one read. Where b is 0, bank a is read by itself.
-pub record Pair : Type 0 where
-  pub a : ℕ
-  pub b : ℕ
+use Rattle.audit.specs.declared.Pair.{Pair}
 
 -- What is given where a list of pairs has none.
 abbrev pub no_pair : Pair

@@ -1,17 +1,34 @@
-// The judging of a request's counts, and the audit of a plan.
+// What a plan is, the judging of a request's counts, and the audit of a plan.
 #![tactic(auto)]
 
-ghost use Rattle.std.specs.Prelude.{◌≡◌, ◌*◌, ◌<◌, ◌&&◌, ◌==◌, not, length, sum};
+ghost use Rattle.std.specs.Prelude.{◌≡◌, ℕ, ◌*◌, ◌≤◌, ◌<◌, ◌&&◌, ◌==◌, not, length, slice_index, sum};
 ghost use Rattle.bits.specs.Marks.{marked};
 ghost use Rattle.refusals.specs.Verdict.{between};
 ghost use Rattle.simplex.specs.Shape.{SymbolsInRange, is_bank};
+ghost use Rattle.simplex.specs.Limit.{start};
 ghost use Rattle.audit.specs.Plan.{serves, is_plan};
 ghost use Rattle.audit.specs.Audit.{all_zero, counts_refusal, rest_of, pairs_of, audit_of};
 ghost use Rattle.audit.specs.Laws.{ThePlans};
 
 use refusals::{Reason, Refusal, Verdict, check, is_between};
-use simplex::{Group, LEAST_SYMBOLS, MOST_SYMBOLS};
+use simplex::{Group, LEAST_SYMBOLS, MOST_PAIRS, MOST_SYMBOLS};
 use std::iter;
+
+// A recovery pair (customers say: a pair of bank numbers): the banks that are opened for one read. Where b is 0, bank a is read by itself.
+#[derive(Clone, Copy, Debug, PartialEq, Eq)]
+pub struct Pair {
+    pub a: u8,
+    pub b: u8,
+}
+
+// The recovery pairs of a group's reads. As the planner gives it, `len` of them are used, and the places after them hold (0, 0). The
+// project's rules name this form: arrays of first and second banks, and how many are used.
+#[derive(Clone, Copy, Debug, Default, PartialEq, Eq)]
+pub struct Plan {
+    pub first: [u8; MOST_PAIRS],
+    pub second: [u8; MOST_PAIRS],
+    pub len: usize,
+}
 
 // Carries the laws of plans. It does nothing.
 pub fn the_plans()
@@ -36,6 +53,23 @@ pub fn judge_counts(k: usize, counts: [usize; MOST_SYMBOLS]) -> Verdict
         0,
     )?;
     check(are_zero(&counts[k..]), Reason::ForeignCount, 0)
+}
+
+// Where the reads of each symbol start.
+#[tactic(auto, using(crate::proofs::Places::start_next, cells::proofs::Turns::set_more))]
+pub fn starts_of(counts: [usize; MOST_SYMBOLS]) -> [usize; MOST_SYMBOLS]
+    requires { sum counts ≤ MOST_PAIRS }
+    ensures { (p : ℕ) → p < MOST_SYMBOLS → slice_index result p ≡ start counts p }
+{
+    let mut starts = [0; MOST_SYMBOLS];
+    let mut at = 0;
+    // `starts` by index: of what is written through a `zip` the prover knows nothing afterwards, and the closure of `counts.map(..)` does
+    // not know that its sum fits.
+    for (i, count) in counts.iter().enumerate() {
+        starts[i] = at;
+        at += *count;
+    }
+    starts
 }
 
 // What the counts leave of `room`; nothing where they total more. They are taken from it one by one, since their sum may be no number of

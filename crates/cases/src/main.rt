@@ -1,7 +1,7 @@
 // Plans requests, and audits the plans. First the requests of standard input, one a line: K and five counts, with a space between. (Other
 // characters than digits, spaces and the line feed that ends a line are passed over.) Then every request there is, of every K, that totals
-// at most one read more than the limit. Then read cycles of a memory at each K, served and refused, as cycles.rt says; a small memory, as
-// refused.rt says; releases of row sets, as sets.rt says; last, updates of packets, as updates.rt says.
+// at most one read more than the limit. Then read cycles of a memory at each K, served and refused, as cycles.rt says; set-ups and a small
+// memory, as refused.rt says; releases of row sets, as sets.rt says; last, updates of packets, as updates.rt says.
 //
 // With L = 2^(K-1), C(L+K, K) requests total at most L and ask K * C(L+K, K+1) reads, and C(L+K, K-1) total L + 1. tools/cases.py computes
 // these, and judges each plan and refusal of the first part by the words of the rules: which plan a request gets is free, except where no
@@ -18,7 +18,7 @@ mod sets;
 mod show;
 mod updates;
 
-use plan::Plan;
+use audit::Plan;
 use refusals::{Reason, Refusal};
 use simplex::{LEAST_SYMBOLS, MOST_PAIRS, MOST_SYMBOLS};
 use std::num::Saturating;

@@ -1,9 +1,10 @@
-// A small memory: its whole store, and the refusals that no session meets (5, 6 and 16), each where later numbers apply too. It has K = 2,
-// two groups, packets of one byte and two rows. Last, the refusals of an audit. tools/cases.py has the answers by the words of the rules.
+// Set-ups: each refusal where later numbers apply too, and the state of zeros that it leaves. Then a small memory: its whole store, and the
+// refusals that no session meets (5, 6 and 16), again where later numbers apply too. It has K = 2, two groups, packets of one byte and two
+// rows. Last, the refusals of an audit. tools/cases.py has the answers by the words of the rules.
 ghost use Rattle.std.specs.Prelude.{◌≤◌};
 
 use crate::memories::Memory;
-use crate::show::{UNTOUCHED, print_answer, print_store, show_read};
+use crate::show::{UNTOUCHED, print_answer, print_outcome, print_store, show_read};
 use layout::Shape;
 use memory::State;
 use simplex::MOST_SYMBOLS;
@@ -88,6 +89,29 @@ impl Memory<STORE> {
     }
 }
 
+// Sets up a memory of this shape, and shows the answer and the state.
+fn show_set_up(rt: &impl Print, k: usize, m: usize, p: usize, g: usize) -> io::Result<()> {
+    let outcome = State::set_up(Shape { k, m, p, g });
+    print_outcome(rt, outcome)?;
+    let Shape { k, m, p, g } = outcome.state.shape;
+    println!(rt; "shape {k} {m} {p} {g}")
+}
+
+// Refused with 1 to 4, each at both ends of its range; then accepted at both ends of every range.
+fn show_set_ups(rt: &impl Print) -> io::Result<()> {
+    println!(rt; "set-ups")?;
+    show_set_up(rt, 1, 0, 0, 0)?;
+    show_set_up(rt, 6, 9, 2049, 65)?;
+    show_set_up(rt, 2, 0, 0, 0)?;
+    show_set_up(rt, 5, 9, 2049, 65)?;
+    show_set_up(rt, 2, 1, 0, 0)?;
+    show_set_up(rt, 5, 8, 2049, 65)?;
+    show_set_up(rt, 2, 1, 1, 0)?;
+    show_set_up(rt, 5, 8, 2048, 65)?;
+    show_set_up(rt, 2, 1, 1, 1)?;
+    show_set_up(rt, 5, 8, 2048, 64)
+}
+
 // An audit of one byte for these counts.
 fn show_audit(rt: &impl Print, k: usize, counts: [usize; MOST_SYMBOLS]) -> io::Result<()> {
     print!(rt; "audit: ")?;
@@ -99,6 +123,7 @@ fn show_audit(rt: &impl Print, k: usize, counts: [usize; MOST_SYMBOLS]) -> io::R
 }
 
 pub fn run(rt: &impl Print) -> io::Result<()> {
+    show_set_ups(rt)?;
     println!(rt; "small memory")?;
     let memory = filled(rt)?;
     memory.show_writes(rt)?;

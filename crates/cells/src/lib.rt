@@ -26,8 +26,7 @@ fn set_cell<F: Fn(&[u8], usize) -> u8>(s: &mut [u8], at: usize, p: usize, byte: 
     }
 }
 
-// The cell of `s` at `at` becomes `src`. With `copy_from_slice`, which calls memcpy, an update at 64 bytes a packet takes 1.4 times as
-// long.
+// The cell of `s` at `at` becomes `src`. Not by `copy_from_slice`, which calls memcpy: small cells would take longer.
 pub fn copy_into(s: &mut [u8], at: usize, src: &[u8])
     requires { at + length src.now ≤ length s.old }
     ensures { s.new ≡ put s.old at src.now }

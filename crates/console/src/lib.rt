@@ -1,14 +1,16 @@
-// A session over standard input and output. What a line does and answers is said and proved in `steps`; here each line of a text is read,
-// once and in order, and its answer is written.
+// A session over a reader and a writer. What a line does and answers is said and proved in `steps`; here each line of a text is read, once
+// and in order, and its answer is written.
 #![tactic(auto)]
 
-ghost use Rattle.std.specs.Prelude.{◌≡◌, length, take};
-ghost use Rattle.steps.specs.Session.{text_done};
+ghost use Rattle.std.specs.Prelude.{◌≡◌, ◌≢◌, ◌<◌, length, take, IfErr, IfSome};
+ghost use Rattle.std.specs.IoError.{error_kind};
+ghost use Rattle.steps.specs.Session.{text_read, session_of};
+ghost use Rattle.console.specs.Written.{Writes, Answered};
 
 use frames::{MOST_OUTPUT, MOST_STORE};
 use lines::reader::Reader;
-use std::io;
-use steps::{MOST_TEXT, Reply, Session};
+use std::io::{self, ErrorKind, Read, Write};
+use steps::{MOST_TEXT, Session};
 
 // The part of a text that a session reads.
 #[tactic(auto, using(std::proofs::lemmas::List::take_min))]
@@ -18,39 +20,73 @@ fn cut(text: &[u8]) -> &[u8]
     &text[..MOST_TEXT.min(text.len())]
 }
 
-// Answers each line of a text, from a session and its store on. Gives the session, and how long the whole output is; and whether it was
-// written: after a write that fails the lines are still answered, but nothing more is written.
-pub fn answer(
-    rt: &impl Print,
+// Writes some bytes, all of them; where it fails, a front of them. A write that is interrupted is tried again, up to 2^64 - 1 times.
+fn write_all<W: Write>(writer: &mut W, bytes: &[u8]) -> io::Result<()>
+    requires { 0 < length bytes.now }
+    ensures written { Writes (W.contents writer.old) (W.contents writer.new) result bytes.now }
+    ensures uninterrupted { IfErr result (λ e. error_kind e ≢ ErrorKind.Interrupted) }
+{
+    // Not by `Write::write_all`, which does not say what is written where it fails.
+    let mut rest = bytes;
+    // Not `loop`: a writer may be interrupted without end.
+    for _ in 0..u64::MAX {
+        match writer.write(rest) {
+            Ok(0) => return Err(ErrorKind::WriteZero.into()),
+            Ok(n) if n < rest.len() => rest = &rest[n..],
+            Ok(_) => return Ok(()),
+            Err(e) if e.kind() == ErrorKind::Interrupted => continue,
+            Err(e) => return Err(e),
+        }
+    }
+    Err(ErrorKind::TimedOut.into())
+}
+
+// Answers each line of a text, from a session and its store on. After a line whose answer cannot be written it stops, since nobody would
+// learn what the lines behind it did. Gives the session, and whether all was written.
+pub fn answer<W: Write>(
     text: &[u8],
     mut session: Session,
     store: &mut [u8; MOST_STORE],
-) -> (Reply, io::Result<()>)
-    ensures session { result.0.session ≡ (text_done session store.old text.now).session }
-    ensures len { result.0.len ≡ length (text_done session store.old text.now).output }
-    ensures store { store.new ≡ (text_done session store.old text.now).store }
+    writer: &mut W,
+) -> (Session, io::Result<()>)
+    ensures answered { Answered session store.old (text_read text.now)
+        result.0 store.new (W.contents writer.old) (W.contents writer.new) result.1 }
+    ensures uninterrupted { IfErr result.1 (λ e. error_kind e ≢ ErrorKind.Interrupted) }
 {
-    let mut reader = Reader::new(cut(text), 0);
+    let mut reader = Reader::new(cut(text));
     let mut out = [0u8; MOST_OUTPUT];
-    let mut len = 0;
-    let mut written = Ok(());
     // No `for`: a step takes the session and the reader by value, and hands them back.
     while let Some(next) = steps::answer_next(reader, session, store, &mut out) {
-        let line = &out[..next.reply.len];
-        written = written.and_then(|()| rt.write_all(line));
         session = next.reply.session;
-        len += next.reply.len;
         reader = next.reader;
+        if let Err(e) = write_all(writer, &out[..next.reply.len]) {
+            return (session, Err(e));
+        }
     }
-    (Reply { session, len }, written)
+    (session, Ok(()))
 }
 
-// Answers what standard input has.
-pub fn run(rt: &(impl Input + Print)) -> io::Result<()> {
+// Answers what a reader has, from the start of a session on: its first 32,768 bytes. Nothing is written where reading
+// fails: of a failure the clauses say what is written of the output, and the tests that it is nothing then, and which error is given.
+pub fn answer_all<R: Read + Drop, W: Write>(reader: R, writer: &mut W) -> io::Result<()>
+    ensures written { IfSome (R.remaining reader) (λ input.
+        Writes (W.contents writer.old) (W.contents writer.new) result (session_of input)) }
+    ensures uninterrupted { IfErr result (λ e. error_kind e ≢ ErrorKind.Interrupted) }
+{
     // With room for any text, and a length: no heap is asked for.
     let mut text = [0; MOST_TEXT];
     let mut store = [0; MOST_STORE];
-    let len = lines::input::read_text(rt.reader(), &mut text)?;
-    let (_, written) = answer(rt, &text[..len], None, &mut store);
+    let len = lines::input::read_text(reader, &mut text)?;
+    let (_, written) = answer(&text[..len], None, &mut store, writer);
     written
 }
+
+// Answers what standard input has, on standard output: what `answer_all` promises, of this reader and this writer. It has no clause, since
+// none can say that the bytes which the reader gives are those that a terminal, a file or a pipe has sent, or that those which the writer
+// takes come out there.
+pub fn run(rt: &(impl Input + Print)) -> io::Result<()> {
+    answer_all(rt.reader(), &mut io::writer(rt))
+}
+
+#[cfg(test)]
+mod tests;

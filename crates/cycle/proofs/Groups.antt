@@ -6,8 +6,6 @@ use Rattle.std.specs.List.{range_with_len}
 use Rattle.std.proofs.lemmas.List.{length-set, length-take-le, get_or-take, get_or-set_same, get_or-set_other}
 use Rattle.std.proofs.lemmas.List.FromFn.{length-map-range_with_len, get_or-map-range_with_len}
 use Rattle.refusals.specs.declared.Refusal.{Refusal}
-use Rattle.refusals.specs.declared.Reason.{Reason}
-use Rattle.refusals.specs.declared.Reason.TheVariants as reason
 use Rattle.refusals.specs.Verdict.{Accepted, check, verdict_of}
 use Rattle.refusals.proofs.Verdicts.{next_accepted, check_passed, answered}
 use Rattle.simplex.specs.declared.TheConstants.{MOST_PAIRS}
@@ -15,9 +13,9 @@ use Rattle.simplex.specs.Shape.{SymbolsInRange, limit_of}
 use Rattle.simplex.proofs.Tables.{limit_most}
 use Rattle.audit.specs.Audit.{counts_refusal}
 use Rattle.audit.proofs.Answer.{accepted}
-use Rattle.plan.specs.declared.Plan.{Plan}
-use Rattle.plan.specs.Finding.{plan_of}
-use Rattle.plan.specs.Planned.{plan_refusal, stored, plan_answer}
+use Rattle.audit.specs.declared.Plan.{Plan}
+use Rattle.audit.specs.Stored.{stored}
+use Rattle.plan.specs.Planned.{plan_of, plan_refusal, plan_answer}
 use Rattle.layout.specs.declared.Shape.{Shape}
 use Rattle.layout.specs.declared.TheConstants.{MOST_GROUPS}
 use Rattle.layout.specs.Shape.{InRange}
@@ -43,7 +41,7 @@ module _ (K : ℕ) (counts : List ℕ) (range : SymbolsInRange K) (plan : Plan) 
   unfolding plan_refusal
   plan_few =
       let fits : leb (sum counts) (limit_of K) ≡ true =
-      check_passed reason.TooManyReads 0 (leb (sum counts) (limit_of K)) (next_accepted (counts_refusal K counts) _ planned.1) in
+      check_passed 12 0 (leb (sum counts) (limit_of K)) (next_accepted (counts_refusal K counts) _ planned.1) in
       le_trans (leb-true _ _ fits) (limit_most K range.most)
 
 -- the first m of the counts of all groups
@@ -61,18 +59,18 @@ abbrev pub placed : {A : Type 0} → ℕ → Result A Refusal → Result A Refus
 placed x (Ok group) = Ok group
 placed x (Err refusal) = Err (record { reason = refusal.reason; place = x })
 
-placed_check : {A : Type 0} (x : ℕ) (r : Result A Refusal) (reason : Reason) (test : Bool) → verdict_of r ≡ check reason 0 test
-    → verdict_of (placed x r) ≡ check reason x test
-placed_check x (Ok group) reason true e = refl
-placed_check x (Ok group) reason false e = cc
-placed_check x (Err refusal) reason true e = cc
-placed_check x (Err refusal) reason false e = cc
+placed_check : {A : Type 0} (x : ℕ) (r : Result A Refusal) (number : ℕ) (test : Bool) → verdict_of r ≡ check number 0 test
+    → verdict_of (placed x r) ≡ check number x test
+placed_check x (Ok group) number true e = refl
+placed_check x (Ok group) number false e = cc
+placed_check x (Err refusal) number true e = cc
+placed_check x (Err refusal) number false e = cc
 
 pub judged : (shape : Shape) (reads : Reads) (group : ℕ) (r : Result GroupReads Refusal) → InRange shape → Named shape reads
     → verdict_of r ≡ plan_refusal shape.k (counts_of reads group) → verdict_of (placed group r) ≡ group_refusal shape reads group
 unfolding plan_refusal
 judged shape reads group r range named answer =
-    placed_check group r reason.TooManyReads (leb (sum (counts_of reads group)) (limit_of shape.k))
+    placed_check group r 12 (leb (sum (counts_of reads group)) (limit_of shape.k))
     (answer ∙ rw (accepted shape.k (counts_of reads group) (request shape.k reads group range.symbols (λ n l. (named n no_read l).symbol))) refl)
 
 pub kept : (P : GroupReads → Type 0) (x : ℕ) (r : Result GroupReads Refusal) (group : GroupReads) → placed x r ≡ Ok group → IfOk r P → P group

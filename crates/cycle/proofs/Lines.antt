@@ -7,9 +7,12 @@ use Rattle.cells.specs.Cell.{cell}
 use Rattle.cells.specs.Xor.{xor_bytes, zeros}
 use Rattle.cells.proofs.Turns.{length_xor_cell}
 use Rattle.cells.proofs.Cells.{get_or_cell}
-use Rattle.cells.proofs.Each.{cell_each}
+use Rattle.cells.proofs.Each.{length_each, cell_each}
 use Rattle.simplex.specs.Shape.{SymbolsInRange, is_bank}
-use Rattle.audit.specs.Plan.{Pair, opens, opened, Serves}
+use Rattle.audit.specs.declared.Pair.{Pair}
+use Rattle.audit.specs.Plan.{opens, opened, pair_at, Serves}
+use Rattle.audit.specs.Audit.{pairs_of}
+use Rattle.audit.proofs.Pairs.{pair_bytes_at}
 use Rattle.audit.proofs.Reading.{first_to, second_to}
 use Rattle.layout.specs.declared.Shape.{Shape}
 use Rattle.layout.specs.Shape.{InRange, banks, store_size, offset, cell_at}
@@ -44,6 +47,12 @@ module _ (plans : Plans) (reads : Reads) (schedule : List ℕ) (size : length sc
       at : (f : ℕ) → f < 2 → cell (lines_out plans reads schedule) (n * 2) 2 ≡ line_of plans reads n
           → get_or (lines_out plans reads schedule) (n * 2 + f) 0 ≡ get_or (line_of plans reads n) f 0
       at f h e = sym (get_or_cell (lines_out plans reads schedule) (n * 2) 2 f h) ∙ ap (λ (c : List ℕ). get_or c f 0) e
+
+  -- so it is where the schedule is read as the audit reads a list
+  pub audited_is : (n : ℕ) → n < length reads → pair_at (pairs_of (lines_out plans reads schedule)) n ≡ pair_of plans reads n
+  audited_is n l =
+      pair_bytes_at (lines_out plans reads schedule) n
+      (omega (arith, length_each 2 (line_of plans reads) (length reads) schedule)) ∙ line_is n l
 
 pub systematic_lines : (shape : Shape) (reads : Reads) (schedule : List ℕ) → length schedule ≡ length reads * 2 → SymbolsInRange shape.k
     → Named shape reads → SystematicLines reads (lines_out (plans_of shape.k reads) reads schedule)

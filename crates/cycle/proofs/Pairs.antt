@@ -6,10 +6,10 @@ use Rattle.std.proofs.lemmas.List.Elements.{All-weaker}
 use Rattle.std.proofs.lemmas.List.FromFn.{length-map-range_with_len}
 use Rattle.simplex.specs.declared.TheConstants.{MOST_SYMBOLS}
 use Rattle.simplex.specs.Shape.{SymbolsInRange, is_bank}
-use Rattle.audit.specs.Plan.{Pair, opened, Serves, pair_at, IsPlan}
-use Rattle.audit.specs.Audit.{RequestOf}
+use Rattle.audit.specs.declared.Pair.{Pair}
+use Rattle.audit.specs.Plan.{opened, Serves, pair_at, IsPlan}
+use Rattle.audit.specs.Audit.{RequestOf, WithinLimit}
 use Rattle.plan.specs.Systematic.{systematic_pair}
-use Rattle.plan.specs.Laws.{WithinLimit}
 use Rattle.plan.proofs.Systematic.{systematic_at}
 use Rattle.plan.proofs.Planning.{systematic_law, is_plan_lem}
 use Rattle.plan.proofs.Answering.{audited}

@@ -9,7 +9,7 @@ use Rattle.simplex.specs.Shape.{is_bank}
 use Rattle.simplex.specs.Limit.{start}
 use Rattle.audit.specs.Plan.{opens, Serves}
 use Rattle.audit.proofs.Reading.{first_to, second_to}
-use Rattle.plan.proofs.Storing.{in_column}
+use Rattle.audit.proofs.Storing.{in_column}
 use Rattle.layout.specs.declared.Shape.{Shape}
 use Rattle.layout.specs.declared.PacketName.{PacketName}
 use Rattle.layout.specs.declared.TheConstants.{MOST_GROUPS}

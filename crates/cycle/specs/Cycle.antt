@@ -4,8 +4,9 @@ use Rattle.cells.specs.Cell.{put_each}
 use Rattle.cells.specs.Xor.{xor_all}
 use Rattle.simplex.specs.Code.{Packet, Banks}
 use Rattle.simplex.specs.Limit.{start}
-use Rattle.audit.specs.Plan.{Pair, opened, pair_at}
-use Rattle.plan.specs.Finding.{plan_of}
+use Rattle.audit.specs.declared.Pair.{Pair}
+use Rattle.audit.specs.Plan.{opened, pair_at}
+use Rattle.plan.specs.Planned.{plan_of}
 use Rattle.layout.specs.declared.Shape.{Shape}
 use Rattle.layout.specs.Shape.{cell_at}
 use Rattle.reads.specs.Reads.{Reads, read_at, count_of, counts_of}

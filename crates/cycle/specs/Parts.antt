@@ -2,8 +2,8 @@
 use Rattle.std.specs.Prelude.{◌≡◌, List, ℕ, ◌+◌, ◌<◌, length, slice_index, take, HoldsAt}
 use Rattle.simplex.specs.declared.TheConstants.{MOST_SYMBOLS}
 use Rattle.simplex.specs.Limit.{start}
-use Rattle.audit.specs.Plan.{Pair}
-use Rattle.plan.specs.Planned.{stored}
+use Rattle.audit.specs.declared.Pair.{Pair}
+use Rattle.audit.specs.Stored.{stored}
 use Rattle.layout.specs.declared.TheConstants.{MOST_GROUPS}
 use Rattle.reads.specs.Reads.{Reads, count_of, counts_of}
 use Rattle.cycle.specs.Cycle.{Plans}

@@ -3,7 +3,8 @@
 use Rattle.std.specs.Prelude.{◌≡◌, List, ℕ, ◌*◌, ◌<◌, length, Contains}
 use Rattle.cells.specs.Cell.{cell}
 use Rattle.simplex.specs.Shape.{is_bank}
-use Rattle.audit.specs.Plan.{Pair, opened, Serves}
+use Rattle.audit.specs.declared.Pair.{Pair}
+use Rattle.audit.specs.Plan.{opened, Serves}
 use Rattle.audit.specs.Audit.{pair_in, pair_bytes, Yes, audit_of}
 use Rattle.plan.specs.Systematic.{systematic_pair}
 use Rattle.layout.specs.declared.Shape.{Shape}

@@ -5,8 +5,7 @@ ghost use Rattle.std.specs.Prelude.{◌≡◌, ◌≢◌, ℕ, ◌+◌, ◌*◌,
 ghost use Rattle.refusals.specs.Verdict.{verdict_of, if_refused, first_refusal};
 ghost use Rattle.cells.specs.Cell.{put};
 ghost use Rattle.audit.specs.Plan.{opens};
-ghost use Rattle.plan.specs.Finding.{plan_of};
-ghost use Rattle.plan.specs.Planned.{plan_refusal};
+ghost use Rattle.plan.specs.Planned.{plan_of, plan_refusal};
 ghost use Rattle.layout.specs.Shape.{CellOf, banks};
 ghost use Rattle.layout.specs.Occupancy.{is_full};
 ghost use Rattle.reads.specs.Reads.{names_of, reads_in};
@@ -16,18 +15,10 @@ ghost use Rattle.cycle.specs.Cycle.{plans_of, xor_of_cells, packets_out, lines_o
 ghost use Rattle.cycle.specs.Laws.{TheCycle};
 ghost use Rattle.cycle.specs.Parts.{GroupAfter, GroupsAfter};
 
+use audit::{Pair, Plan};
 use layout::{Geometry, MOST_GROUPS, PacketName, Rows, Store};
-use plan::Plan;
 use refusals::{Reason, Refusal, Verdict, check};
 use simplex::{MOST_PAIRS, MOST_SYMBOLS};
-
-// A recovery pair: the numbers of two banks, or of one bank and 0, which no bank has. The project's rules write it so, here as in a
-// schedule's line.
-#[derive(Clone, Copy, Debug, PartialEq, Eq)]
-struct Pair {
-    a: u8,
-    b: u8,
-}
 
 // The reads of a group: their plan, and for each symbol where its next pair stands in it. By default those of a group that no read names.
 // Its place is a number: an iterator would borrow the plan that stands beside it.
@@ -74,7 +65,7 @@ fn begin_group(geometry: Geometry, counts: [usize; MOST_SYMBOLS]) -> Result<Grou
     let plan = plan::plan_group(geometry.shape.k, counts)?;
     Ok(GroupReads {
         plan,
-        next: plan::starts_of(counts),
+        next: audit::starts_of(counts),
     })
 }
 

@@ -68,8 +68,7 @@ fn print_banks(rt: &impl Print, bytes: &[u8; STORE]) -> io::Result<()> {
     let geometry = Geometry { shape: SHAPE };
     let store = Store { geometry, bytes };
     for bank in 1..=BANKS {
-        // `as`, since u32 has no From<usize>.
-        let degree = simplex::degree(bank as u32);
+        let degree = simplex::degree(bank);
         let cell = Hexadecimal(store.cell_at(0, bank, usize::from(ROW)));
         println!(rt; "bank {bank}, degree {degree}: {cell}")?;
     }

@@ -1,11 +1,11 @@
 -- What an output holds once a line, or an answer as one, is printed at its front.
-use mathlib.Core.Path.{◌≡◌, refl, ap}
+use mathlib.Core.Path.{◌≡◌, refl, sym, ap, ◌∙◌}
 use mathlib.Core.List.{List, [], ◌∷◌, ◌++◌}
-use Prim.Native.Nat.{ℕ, ◌+◌, ◌*◌, ◌/◌, ◌%◌, ◌<◌}
+use Prim.Native.Nat.{ℕ, ◌+◌, ◌*◌, ◌/◌, ◌%◌, ◌≤◌, ◌<◌}
 use native.Mathlib.Omega.{arith}
 use lib.ListN.{length, take, drop, set, length-append, drop_of_length-le}
 use lib.Seq.{take_all}
-use Rattle.std.proofs.Common.{append-nil}
+use Rattle.std.proofs.Common.{append-nil, append_assoc, length-take}
 use Rattle.cells.specs.Cell.{put}
 use Rattle.cells.proofs.Cells.{put_none}
 use Rattle.frames.specs.Printing.{printed, Prints}
@@ -28,26 +28,37 @@ length_printed bytes = rw (length-append, length_digits)
 pub put_printed : (s bytes l : List ℕ) → l ≡ put s 0 (digits_of bytes) → set l (2 * length bytes) 10 ≡ put s 0 (printed bytes)
 put_printed s bytes l e = rw (e, ← length_digits bytes) (put_end s (digits_of bytes) 10)
 
--- ---- an answer
+-- ---- one behind another
+
+-- one list put behind another that is put, where k bytes are left for it
+put_behind : (s d t : List ℕ) (k : ℕ) → length s ≡ length d + k → let text = put s 0 d in
+    take (length d) text ++ (put (take k (drop (length d) text)) 0 t ++ drop k (drop (length d) text)) ≡ put s 0 (d ++ t)
+unfolding put
+put_behind s [] t k e =
+    let none : drop k s ≡ [] = drop_of_length-le s {i = k} (omega arith) in
+    rw (← put_none s 0, take_all k s (omega arith), none, append-nil)
+put_behind [] (y ∷ d) t k e = absurd (omega arith)
+put_behind (x ∷ s) (y ∷ d) t k e = ap (λ (r : List ℕ). y ∷ r) (put_behind s d t k (omega arith))
+
+digits_append : (front rest : List ℕ) → digits_of (front ++ rest) ≡ digits_of front ++ digits_of rest
+unfolding digits_of
+digits_append [] rest = refl
+digits_append (b ∷ front) rest = rw (digits_append front rest)
+
+printed_append : (front rest : List ℕ) → printed (front ++ rest) ≡ digits_of front ++ printed rest
+printed_append front rest = rw (digits_append, append_assoc)
+
+-- a line printed behind the digits of the bytes before it
+pub behind : (out front rest text line : List ℕ) (k n : ℕ) → text ≡ put out 0 (digits_of front) → length out ≡ 2 * length front + k
+    → let at = 2 * length front in Prints rest (take k (drop at text)) n line → Prints (front ++ rest) out (at + n) (take at text ++ (line ++ drop k (drop at text)))
+behind out front rest text line k n is e p =
+    let at : 2 * length front ≡ length (digits_of front) = sym (length_digits front) in
+    let whole = ap length (printed_append front rest) ∙ length-append (digits_of front) (printed rest) in
+    let left : length (take k (drop (2 * length front) text)) ≤ k = rw length-take (omega arith) in
+    let put : take (2 * length front) text ++ (line ++ drop k (drop (2 * length front) text)) ≡ put out 0 (printed (front ++ rest)) =
+    rw (p.output, printed_append, is, at) (put_behind out (digits_of front) (printed rest) k (omega (arith, e, at))) in
+    record { len = omega (arith, p.len, whole, at); room = omega (arith, p.room, whole, at, left); output = put }
 
 -- the high byte of a place
 pub high_byte : (n : ℕ) → n < 65536 → n / 256 % 256 ≡ n / 256
 high_byte n h = omega arith
-
--- the packets of a cycle printed behind the two bytes before them
-pub behind_two : (out : List ℕ) (k first : ℕ) (packets line : List ℕ) (n : ℕ) → length out ≡ 4 + k
-    → let text = put out 0 (digits_of (first ∷ 0 ∷ [])) in
-    Prints packets (take k (drop 4 text)) n line
-    → Prints (first ∷ 0 ∷ packets) out (4 + n) (take 4 text ++ (line ++ drop k (drop 4 text)))
-unfolding put digits_of
-behind_two [] k first packets line n e p = absurd (omega arith)
-behind_two (a ∷ []) k first packets line n e p = absurd (omega arith)
-behind_two (a ∷ b ∷ []) k first packets line n e p = absurd (omega arith)
-behind_two (a ∷ b ∷ c ∷ []) k first packets line n e p = absurd (omega arith)
-behind_two (a ∷ b ∷ c ∷ d ∷ rest) k first packets line n e p =
-    let none : drop k rest ≡ [] = drop_of_length-le rest {i = k} (omega arith) in
-    let q = rw (← put_none rest 0, take_all k rest (omega arith)) at p in
-    let more = length_printed packets in
-    let whole = length_printed (first ∷ 0 ∷ packets) in
-    rw (← put_none rest 0, none, append-nil)
-    (record { len = omega (arith, q.len, more, whole); room = omega (arith, q.room, more, whole); output = rw q.output })

@@ -1,7 +1,6 @@
--- A frame: what it carries, which one bytes are (18), which one a line is (17), and the first byte of its answer.
-use Rattle.std.specs.Prelude.{◌&&◌, if◌then◌else◌, List, ℕ, ◌+◌, ◌*◌, ◌%◌, ◌==◌, nat_le, length, drop, slice_index}
+-- A frame: what it carries; which frame bytes are, or none (18); which frame a line is, or none (17); and the first byte of its answer.
+use Rattle.std.specs.Prelude.{◌&&◌, if◌then◌else◌, List, [], ◌∷◌, ℕ, ◌+◌, ◌*◌, ◌%◌, ◌==◌, length}
 use Rattle.std.specs.List.{list_all}
-use Rattle.refusals.specs.declared.Reason.TheVariants as reason
 use Rattle.refusals.specs.Verdict.{Verdict, between, check, if_refused}
 use Rattle.layout.specs.declared.Shape.{Shape}
 use Rattle.lines.specs.Hex.{is_digit, bytes_of}
@@ -25,21 +24,39 @@ shown (Release row) = release row
 shown (Read list) = read list.now
 shown Unknown = unknown
 
--- The frame that bytes are. 01 K m P G, P in two bytes, high first; 02 row packets; 03 row; 04 list. All else is unknown.
-unfoldable pub frame_of : List ℕ → Frame
-frame_of bytes =
-    let byte : ℕ → ℕ = λ n. slice_index bytes n in
-    let shape : Shape = record { k = byte 1; m = byte 2; p = byte 3 * 256 + byte 4; g = byte 5 } in
-    if byte 0 == 1 && length bytes == 6 then set_up shape
-    else if byte 0 == 2 && nat_le 2 (length bytes) then write (byte 1) (drop 2 bytes)
-    else if byte 0 == 3 && length bytes == 2 then release (byte 1)
-    else if byte 0 == 4 then read (drop 1 bytes)
+-- The frame of each kind with these bytes behind its first. 01: K m P G, P in two bytes, high first.
+abbrev pub set_up_frame : (fields : List ℕ) → Frame
+set_up_frame (k ∷ m ∷ high ∷ low ∷ g ∷ []) = set_up (record { k = k; m = m; p = high * 256 + low; g = g })
+set_up_frame other = unknown
+
+-- 02: row packets.
+abbrev pub write_frame : (fields : List ℕ) → Frame
+write_frame (row ∷ packets) = write row packets
+write_frame [] = unknown
+
+-- 03: row.
+abbrev pub release_frame : (fields : List ℕ) → Frame
+release_frame (row ∷ []) = release row
+release_frame other = unknown
+
+-- By the first byte: one of the four kinds, or unknown. 04 has nothing but the list of a cycle.
+abbrev pub frame_by : (kind : ℕ) → (fields : List ℕ) → Frame
+frame_by kind fields =
+    if kind == 1 then set_up_frame fields
+    else if kind == 2 then write_frame fields
+    else if kind == 3 then release_frame fields
+    else if kind == 4 then read fields
     else unknown
+
+-- The frame that bytes are.
+unfoldable pub frame_of : List ℕ → Frame
+frame_of (kind ∷ fields) = frame_by kind fields
+frame_of [] = unknown
 
 -- 17, the line is empty, has an odd count of digits, a character other than 0-9 and a-f, or more than 4,096 characters.
 unfoldable pub line_refusal : (line : List ℕ) → Verdict
 line_refusal line =
-    check reason.NoHexadecimal 0 (between 1 MOST_CHARACTERS (length line) && length line % 2 == 0 && list_all is_digit line)
+    check 17 0 (between 1 MOST_CHARACTERS (length line) && length line % 2 == 0 && list_all is_digit line)
 
 -- The frame that a line is: none, where it is refused.
 abbrev pub frame_in : (line : List ℕ) → Frame

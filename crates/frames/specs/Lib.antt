@@ -1,4 +1,5 @@
--- The definitions of the crate: frames, and answers as lines.
+-- The definitions of the crate: frames, answers as lines, and laws.
 pub mod Frame
 pub mod Printing
 pub mod Bounds
+pub mod Laws

@@ -1,10 +1,9 @@
 -- How an answer is said in bytes, and what it is for bytes to be printed as a line.
-use Rattle.std.specs.Prelude.{◌≡◌, List, [], ◌∷◌, ◌++◌, ℕ, ◌/◌, ◌%◌, ◌≤◌, ◌<◌, length, Result, Ok, Err}
+use Rattle.std.specs.Prelude.{◌≡◌, List, [], ◌∷◌, ◌++◌, ℕ, ◌/◌, ◌%◌, ◌≤◌, ◌<◌, length, All, Result, Ok, Err}
 use Rattle.cells.specs.Cell.{put}
 use Rattle.refusals.specs.declared.Refusal.{Refusal}
-use Rattle.refusals.specs.Verdict.{number_of}
+use Rattle.refusals.specs.Verdict.{number_of, values_of}
 use Rattle.refusals.specs.declared.Answer.{Answer}
-use Rattle.refusals.specs.declared.Answer.TheVariants.{FullRows, Served}
 use Rattle.lines.specs.Lines.{line_feed}
 use Rattle.lines.specs.Hex.{digits_of}
 
@@ -12,16 +11,14 @@ use Rattle.lines.specs.Hex.{digits_of}
 abbrev pub refusal_said : Refusal → List ℕ
 refusal_said refusal = number_of refusal.reason ∷ (refusal.place / 256) ∷ (refusal.place % 256) ∷ []
 
--- A memory's answer in bytes: 00 and the number of full rows; 00 and the packets of a cycle; a refusal.
+-- A memory's answer in bytes: 00, its values, and packets, which a cycle alone puts out; or a refusal.
 abbrev pub said : (packets : List ℕ) → Result Answer Refusal → List ℕ
-said packets (Ok (FullRows rows)) = 0 ∷ rows ∷ []
-said packets (Ok Served) = 0 ∷ packets
+said packets (Ok answer) = 0 ∷ values_of answer ++ packets
 said packets (Err refusal) = refusal_said refusal
 
 -- An answer's numbers fit the bytes that it is said in.
 abbrev pub Fits : Result Answer Refusal → Type 0
-Fits (Ok (FullRows rows)) = rows < 256
-Fits (Ok Served) = Unit {0}
+Fits (Ok answer) = All (λ value. value < 256) (values_of answer)
 Fits (Err refusal) = refusal.place < 65536
 
 -- The line that bytes are printed as.

@@ -1,10 +1,11 @@
 // Frames and answers of a session: what a line is read as, and how an answer is written.
 #![tactic(auto)]
 
-ghost use Rattle.std.specs.Prelude.{◌≡◌, ◌∷◌, ◌+◌, ◌*◌, ◌≤◌, ◌<◌, length};
+ghost use Rattle.std.specs.Prelude.{◌≡◌, ◌∷◌, ◌++◌, ◌+◌, ◌*◌, ◌≤◌, ◌<◌, length};
 ghost use Rattle.frames.specs.Bounds.{TheBounds};
-ghost use Rattle.frames.specs.Frame.{line_refusal, shown, frame_of, first_byte};
+ghost use Rattle.frames.specs.Frame.{line_refusal, shown, set_up_frame, write_frame, release_frame, frame_of, first_byte};
 ghost use Rattle.frames.specs.Printing.{said, Fits, Prints};
+ghost use Rattle.frames.specs.Laws.{TheFrames};
 
 use layout::Shape;
 use lines::hex;
@@ -15,14 +16,17 @@ pub const MOST_CHARACTERS: usize = 4096;
 
 pub const MOST_FRAME: usize = MOST_CHARACTERS / 2;
 
-// The bytes of a session's store, and room for any output line.
+// The bytes of a session's store, and room for any output line: of the first byte, 00 and an answer's values, at most two, and behind them
+// packets.
 pub const MOST_STORE: usize = 16384;
 
-pub const MOST_OUTPUT: usize = 2 * (2 + MOST_STORE) + 1;
+pub const MOST_OUTPUT: usize = 2 * (4 + MOST_STORE) + 1;
 
-// Carries the bounds of lines and stores. It does nothing.
+// Carries the bounds of lines and stores, and the law of lines. It does nothing.
+#[tactic(auto, using(crate::proofs::Framed::the_frames))]
 pub fn the_frames()
-    ensures { TheBounds }
+    ensures bounds { TheBounds }
+    ensures line { TheFrames }
 {}
 
 // A frame, by its first byte, with what it carries; unknown where that byte or the length is wrong. The unknown ones are a kind of their
@@ -62,21 +66,55 @@ pub fn judge_line(line: &[u8]) -> Verdict
     check(whole, Reason::NoHexadecimal, 0)
 }
 
-// The frame that bytes are.
-#[tactic(auto, unfolding(crate::specs::Frame::frame_of))]
-pub fn frame_of(bytes: &[u8]) -> Frame<'_>
-    ensures { shown result ≡ frame_of bytes.now }
+// The frame of each kind with these bytes behind its first. 01: K m P G, P in two bytes, high first.
+fn set_up_frame(fields: &[u8]) -> Frame<'_>
+    ensures { shown result ≡ set_up_frame fields.now }
 {
-    match bytes {
-        [1, k, m, high, low, g] => Frame::SetUp(Shape {
+    match fields {
+        [k, m, high, low, g] => Frame::SetUp(Shape {
             k: usize::from(*k),
             m: usize::from(*m),
             p: usize::from(u16::from_be_bytes([*high, *low])),
             g: usize::from(*g),
         }),
-        [2, row, packets @ ..] => Frame::Write(usize::from(*row), packets),
-        [3, row] => Frame::Release(usize::from(*row)),
-        [4, list @ ..] => Frame::Read(list),
+        _ => Frame::Unknown,
+    }
+}
+
+// 02: row packets.
+fn write_frame(fields: &[u8]) -> Frame<'_>
+    ensures { shown result ≡ write_frame fields.now }
+{
+    match fields {
+        [row, packets @ ..] => Frame::Write(usize::from(*row), packets),
+        _ => Frame::Unknown,
+    }
+}
+
+// 03: row.
+fn release_frame(fields: &[u8]) -> Frame<'_>
+    ensures { shown result ≡ release_frame fields.now }
+{
+    match fields {
+        [row] => Frame::Release(usize::from(*row)),
+        _ => Frame::Unknown,
+    }
+}
+
+// The frame that bytes are: by the first of them one of the four kinds, or unknown, as the project's rules name this form. Each kind judges
+// its own fields.
+#[tactic(auto, unfolding(crate::specs::Frame::frame_of))]
+pub fn frame_of(bytes: &[u8]) -> Frame<'_>
+    ensures { shown result ≡ frame_of bytes.now }
+{
+    let Some((kind, fields)) = bytes.split_first() else {
+        return Frame::Unknown;
+    };
+    match kind {
+        1 => set_up_frame(fields),
+        2 => write_frame(fields),
+        3 => release_frame(fields),
+        4 => Frame::Read(fields),
         _ => Frame::Unknown,
     }
 }
@@ -94,6 +132,16 @@ pub fn print_line(bytes: &[u8], out: &mut [u8]) -> usize
     end + 1
 }
 
+// Prints some bytes and others behind them as one line.
+fn print_both(front: &[u8], rest: &[u8], out: &mut [u8]) -> usize
+    requires { 2 * (length front.now + length rest.now) + 1 ≤ length out.old }
+    ensures { Prints (front.now ++ rest.now) out.old result out.new }
+{
+    hex::encode(front, out);
+    let len = 2 * front.len();
+    len + print_line(rest, &mut out[len..])
+}
+
 // Prints the answer to a frame. The packets, which are read if it is of a cycle that is served, stand beside it, since an `Answer` has no
 // bytes.
 #[tactic(auto, using(crate::proofs::Printing::high_byte))]
@@ -104,18 +152,18 @@ pub fn print_answer(
     out: &mut [u8; MOST_OUTPUT],
 ) -> usize
     requires fits { Fits answer }
-    requires room { 2 * (2 + length packets.now) < length out.old }
+    requires room { 2 * (4 + length packets.now) < length out.old }
     ensures { let bytes = first_byte (shown frame.entry) ∷ said packets.now answer in
         Prints bytes out.old result out.new }
 {
     let first = frame.first_byte();
     match answer {
         // `as` is proved to lose nothing, and no `From` narrows.
-        Ok(Answer::FullRows(rows)) => print_line(&[first, 0, rows as u8], out),
-        Ok(Answer::Served) => {
-            hex::encode(&[first, 0], out);
-            4 + print_line(packets, &mut out[4..])
+        Ok(Answer::Ready { banks, most_reads }) => {
+            print_both(&[first, 0, banks as u8, most_reads as u8], packets, out)
         }
+        Ok(Answer::FullRows(rows)) => print_both(&[first, 0, rows as u8], packets, out),
+        Ok(Answer::Served) => print_both(&[first, 0], packets, out),
         Err(Refusal { reason, place }) => {
             let [.., high, low] = place.to_be_bytes();
             print_line(&[first, reason.number(), high, low], out)

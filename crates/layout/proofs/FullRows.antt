@@ -2,7 +2,7 @@
 use mathlib.Core.Path.{◌≡◌, refl, sym, ap, ◌∙◌}
 use mathlib.Core.Logic.{⊎_elim}
 use mathlib.Core.Bool.{Bool, true, false, not, ◌&&◌, ◌||◌}
-use Prim.Native.Nat.{ℕ, suc, ◌+◌, ◌≤◌, ◌<◌}
+use Prim.Native.Nat.{ℕ, zero, suc, ◌+◌, ◌≤◌, ◌<◌}
 use native.Mathlib.Omega.{arith}
 use borrow.Author.Tests.{eq-eqb, ne_eqb}
 use lib.Dec.{eqb}
@@ -23,6 +23,11 @@ full_none rows g = marked_none rows.full g
 
 pub empty_all : (row : ℕ) → is_full all_empty row ≡ false
 empty_all = unmarked
+
+-- so none is counted
+pub none_counted : (g : ℕ) → full_count all_empty g ≡ 0
+none_counted zero = refl
+none_counted (suc g) = rw (none_counted g, empty_all g)
 
 -- a set by a test that fails from 64 on has each number that passes
 passing : (test : ℕ → Bool) → ((r : ℕ) → MOST_ROWS ≤ r → test r ≡ false) → (r : ℕ) → marked (set_of test MOST_ROWS) r ≡ test r

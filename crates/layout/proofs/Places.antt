@@ -1,6 +1,7 @@
 -- Where cells lie: within the store, and no two on one byte. A cell's place is p times a number with three digits: its group, its bank, its row.
 use mathlib.Core.Path.{◌≡◌}
-use Prim.Native.Nat.{ℕ, ◌+◌, ◌-◌, ◌*◌, ◌≤◌, ◌<◌}
+use Prim.Native.Nat.{ℕ, suc, ◌+◌, ◌-◌, ◌*◌, ◌≤◌, ◌<◌}
+use native.Mathlib.Nat.{suc-mul, zero-mul}
 use native.Mathlib.Omega.{arith}
 use lib.Arith.{digits_lt}
 use Rattle.cells.specs.Cell.{Apart}
@@ -8,6 +9,7 @@ use Rattle.cells.proofs.Steps.{step_within, digits_same, multiples_apart}
 use Rattle.simplex.specs.Banks.{spaced, Room}
 use Rattle.layout.specs.declared.Shape.{Shape}
 use Rattle.layout.specs.Shape.{banks, store_size, CellOf, offset}
+use Rattle.layout.specs.Laws.{ThePlaces}
 
 pub inside : (sh : Shape) (x b r : ℕ) → CellOf sh x b r → offset sh x b r + sh.p ≤ store_size sh
 unfolding offset store_size
@@ -30,6 +32,40 @@ pub apart : (sh : Shape) (x b r y c q : ℕ) → CellOf sh x b r → CellOf sh y
     → Apart sh.p (offset sh x b r) (offset sh y c q)
 unfolding offset
 apart sh x b r y c q h k ne = multiples_apart sh.p (number sh x b r) (number sh y c q) (λ e. ne (same_cell sh x b r y c q h k e))
+
+-- ---- from one cell to the next
+
+module _ (sh : Shape) where
+  first : offset sh 0 1 0 ≡ 0
+  unfolding offset
+  first = let none : 0 * banks sh + 1 - 1 ≡ 0 = omega (arith, zero-mul (banks sh)) in rw (none, zero-mul sh.g) (zero-mul sh.p)
+
+  next_row : (x b r : ℕ) → offset sh x b (suc r) ≡ offset sh x b r + sh.p
+  unfolding offset
+  next_row x b r = omega (arith, suc-mul (number sh x b r) sh.p)
+
+  next_bank : (x b r : ℕ) → 1 ≤ b → offset sh x (suc b) r ≡ offset sh x b r + sh.g * sh.p
+  unfolding offset
+  next_bank x b r some =
+      let further : x * banks sh + suc b - 1 ≡ suc (x * banks sh + b - 1) = omega arith in
+      rw further (omega arith)
+
+  next_group : (x b r : ℕ) → 1 ≤ b → offset sh (suc x) b r ≡ offset sh x b r + banks sh * sh.g * sh.p
+  unfolding offset
+  next_group x b r some =
+      let further : suc x * banks sh + b - 1 ≡ x * banks sh + b - 1 + banks sh = omega (arith, suc-mul x (banks sh)) in
+      rw further (omega arith)
+
+  last : (x r : ℕ) → CellOf sh x (banks sh) r → sh.m ≡ suc x → sh.g ≡ suc r → offset sh x (banks sh) r + sh.p ≡ store_size sh
+  unfolding offset store_size
+  last x r c m g =
+      let all : sh.m * banks sh ≡ suc (x * banks sh + banks sh - 1) = rw m (omega (arith, suc-mul x (banks sh), c.first)) in
+      let cells : suc (number sh x (banks sh) r) ≡ sh.m * banks sh * sh.g =
+      rw all (omega (arith, suc-mul (x * banks sh + banks sh - 1) sh.g)) in
+      rw (← cells) (omega (arith, suc-mul (number sh x (banks sh) r) sh.p))
+
+  pub places : ThePlaces sh
+  places = record { first = first; next_row = next_row; next_bank = next_bank; next_group = next_group; last = last }
 
 -- ---- the banks of a group in a row
 

@@ -1,6 +1,6 @@
 -- Set-up's ranges, as a test and in words; the sizes that fit them.
-use mathlib.Core.Path.{◌≡◌}
-use mathlib.Core.Bool.{true}
+use mathlib.Core.Path.{◌≡◌, refl}
+use mathlib.Core.Bool.{Bool, true, false}
 use Prim.Native.Nat.{ℕ, ◌*◌, ◌^◌, ◌≤◌}
 use native.Mathlib.Nat.{mul-le-mul}
 use native.Mathlib.Omega.{arith}
@@ -12,6 +12,7 @@ use Rattle.simplex.specs.Shape.{banks_of}
 use Rattle.layout.specs.declared.Shape.{Shape}
 use Rattle.layout.specs.declared.TheConstants.{MOST_GROUPS, MOST_PACKET_BYTES, MOST_ROWS}
 use Rattle.layout.specs.Shape.{shape_refusal, InRange, banks}
+use Rattle.layout.specs.Laws.{Within, WrongShape}
 
 pub range_words : (sh : Shape) → shape_refusal sh ≡ Accepted → InRange sh
 unfolding shape_refusal
@@ -36,6 +37,23 @@ words_range sh w = rw (
   words_between 1 MOST_PACKET_BYTES sh.p w.bytes,
   words_between 1 MOST_ROWS sh.g w.rows,
 )
+
+-- a number outside a range
+no_between : (low high n : ℕ) → (Within low high n → ⊥) → between low high n ≡ false
+no_between low high n out = go (between low high n) refl
+  where
+    go : (t : Bool) → between low high n ≡ t → t ≡ false
+    go true e = absurd (out (between_words low high n e))
+    go false e = refl
+
+pub wrong_shape : (sh : Shape) → WrongShape sh (shape_refusal sh)
+unfolding shape_refusal
+wrong_shape sh = record {
+  one = λ k. rw (no_between 2 5 sh.k k);
+  two = λ k m. rw (words_between 2 5 sh.k k, no_between 1 8 sh.m m);
+  three = λ k m p. rw (words_between 2 5 sh.k k, words_between 1 8 sh.m m, no_between 1 2048 sh.p p);
+  four = λ k m p g. rw (words_between 2 5 sh.k k, words_between 1 8 sh.m m, words_between 1 2048 sh.p p, no_between 1 64 sh.g g);
+}
 
 -- ---- sizes: no product of the numbers of a shape in range is large
 

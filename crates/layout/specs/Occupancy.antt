@@ -1,6 +1,6 @@
 -- Which rows of a memory are full. How that is kept, this file alone knows (and src/occupancy.rt): everywhere else a row is asked, and
 -- set, by these names.
-use Rattle.std.specs.Prelude.{◌≡◌, ◌↔◌, ◌==◌, Bool, true, false, not, ◌&&◌, ◌||◌, ℕ, ◌≤◌, ◌<◌}
+use Rattle.std.specs.Prelude.{◌≡◌, ◌↔◌, ◌==◌, Bool, true, false, not, ◌&&◌, ◌||◌, ℕ, suc, ◌≤◌, ◌<◌}
 use Rattle.bits.specs.Marks.{marked, how_many}
 use Rattle.bits.specs.Marks as marks
 use Rattle.bits.specs.Sets.{set_of}
@@ -43,6 +43,7 @@ EmptyFrom rows g = (row : ℕ) → g ≤ row → is_full rows row ≡ false
 -- none: `none_from`, row by row. empty: of `all_empty`, none is full.
 -- filled, emptied: one row made full, or empty, is so, and every other row is as it was. cleared: of a set of rows made empty none is
 -- full, and every other row is as it was.
+-- counted_none, one_more, one_less: of `all_empty` no row is counted; a row made full is counted once more, and one made empty no longer.
 pub record TheOccupancy : Type 0 where
   pub none : (rows : Rows) (g : ℕ) → (none_from rows g ≡ true) ↔ EmptyFrom rows g
   pub empty : (row : ℕ) → is_full all_empty row ≡ false
@@ -52,3 +53,8 @@ pub record TheOccupancy : Type 0 where
       → (r : ℕ) → is_full (with_empty rows row) r ≡ (not (r == row) && is_full rows r)
   pub cleared : (rows : Rows) (set : ℕ) → EmptyFrom rows MOST_ROWS
       → (r : ℕ) → is_full (without rows set) r ≡ (is_full rows r && not (marked set r))
+  pub counted_none : (g : ℕ) → full_count all_empty g ≡ 0
+  pub one_more : (rows : Rows) (row g : ℕ) → EmptyFrom rows MOST_ROWS → g ≤ MOST_ROWS → row < g → is_full rows row ≡ false
+      → full_count (with_full rows row) g ≡ suc (full_count rows g)
+  pub one_less : (rows : Rows) (row g : ℕ) → EmptyFrom rows MOST_ROWS → g ≤ MOST_ROWS → row < g → is_full rows row ≡ true
+      → full_count rows g ≡ suc (full_count (with_empty rows row) g)

@@ -1,6 +1,5 @@
 -- The shape of a memory: its ranges, its sizes, and where each cell lies.
 use Rattle.std.specs.Prelude.{List, ℕ, ◌+◌, ◌-◌, ◌*◌, ◌≤◌, ◌<◌}
-use Rattle.refusals.specs.declared.Reason.TheVariants as reason
 use Rattle.refusals.specs.Verdict.{Verdict, between, check, ◌then◌}
 use Rattle.cells.specs.Cell.{cell}
 use Rattle.simplex.specs.declared.TheConstants.{LEAST_SYMBOLS, MOST_SYMBOLS}
@@ -12,17 +11,26 @@ use Rattle.layout.specs.declared.TheConstants.{MOST_GROUPS, MOST_PACKET_BYTES, M
 -- Set-up's refusals. 1, K outside 2 to 5. 2, m outside 1 to 8. 3, P outside 1 to 2,048. 4, G outside 1 to 64.
 unfoldable pub shape_refusal : Shape → Verdict
 shape_refusal shape =
-    check reason.SymbolsOutOfRange 0 (between LEAST_SYMBOLS MOST_SYMBOLS shape.k)
-    then check reason.GroupsOutOfRange 0 (between 1 MOST_GROUPS shape.m)
-    then check reason.PacketSizeOutOfRange 0 (between 1 MOST_PACKET_BYTES shape.p)
-    then check reason.RowsOutOfRange 0 (between 1 MOST_ROWS shape.g)
+    check 1 0 (between LEAST_SYMBOLS MOST_SYMBOLS shape.k)
+    then check 2 0 (between 1 MOST_GROUPS shape.m)
+    then check 3 0 (between 1 MOST_PACKET_BYTES shape.p)
+    then check 4 0 (between 1 MOST_ROWS shape.g)
 
 -- Set-up's ranges, in words.
+abbrev pub GroupsInRange : Shape → Type 0
+GroupsInRange shape = (1 ≤ shape.m) × (shape.m ≤ MOST_GROUPS)
+
+abbrev pub BytesInRange : Shape → Type 0
+BytesInRange shape = (1 ≤ shape.p) × (shape.p ≤ MOST_PACKET_BYTES)
+
+abbrev pub RowsInRange : Shape → Type 0
+RowsInRange shape = (1 ≤ shape.g) × (shape.g ≤ MOST_ROWS)
+
 pub record InRange (shape : Shape) : Type 0 where
   pub symbols : SymbolsInRange shape.k
-  pub groups : (1 ≤ shape.m) × (shape.m ≤ MOST_GROUPS)
-  pub bytes : (1 ≤ shape.p) × (shape.p ≤ MOST_PACKET_BYTES)
-  pub rows : (1 ≤ shape.g) × (shape.g ≤ MOST_ROWS)
+  pub groups : GroupsInRange shape
+  pub bytes : BytesInRange shape
+  pub rows : RowsInRange shape
 
 -- N, the banks of each group.
 abbrev pub banks : Shape → ℕ

@@ -1,18 +1,19 @@
 -- Laws of hexadecimal: of one character, of both ways, of what stands at an index, and of the turns of loops over digits.
 use mathlib.Core.Path.{◌≡◌, refl}
-use mathlib.Core.Bool.{true}
-use mathlib.Core.List.{List, [], ◌∷◌}
+use mathlib.Core.Bool.{true, false}
+use mathlib.Core.List.{List, [], ◌∷◌, ◌++◌}
 use Prim.Native.Nat.{ℕ, zero, suc, ◌+◌, ◌*◌, ◌/◌, ◌%◌, ◌≤◌, ◌<◌}
 use native.Mathlib.Nat.{zero-add, div-add-mod'}
 use native.Mathlib.Omega.{arith}
 use Rattle.std.specs.List.{list_all}
+use Rattle.std.specs.Fmt.{digit_glyph}
 use Rattle.std.specs.Simd.{first_chunks}
 use lib.ListN.{length, get_or, take, set}
 use Rattle.std.proofs.lemmas.Bool.Decides.{nat_tests}
 use lib.Pow.{are_bytes}
 use Rattle.cells.specs.Cell.{put}
 use Rattle.cells.proofs.Turns.{put_more}
-use Rattle.lines.specs.Hex.{is_digit, value_of, digit_of, bytes_of, digits_of}
+use Rattle.lines.specs.Hex.{is_digit, value_of, digit_of, bytes_of, byte_digits, digits_of}
 use Rattle.lines.specs.Laws.{TheDigits}
 
 -- ---- one character
@@ -59,7 +60,8 @@ back [] e = (refl, refl)
 back (b ∷ bytes) e = grind (arith, nat_tests, of_value (b / 16), of_value (b % 16), back bytes, div-add-mod' b 16)
 
 pub the_digits : TheDigits
-the_digits = record { digits = λ bytes e. (back bytes e).0; twice = length_digits; back = λ bytes e. (back bytes e).1; written = written }
+unfolding digits_of
+the_digits = record { shown = refl; digits = λ bytes e. (back bytes e).0; twice = length_digits; back = λ bytes e. (back bytes e).1; written = written }
 
 -- ---- at an index
 
@@ -95,6 +97,17 @@ unfolding digits_of
 digit_at [] i h = absurd (omega arith)
 digit_at (b ∷ bytes) zero h = (refl, refl)
 digit_at (b ∷ bytes) (suc i) h = rw ((next_two i).1, (next_two i).0) (digit_at bytes i (omega arith))
+
+-- the digits of one byte more
+pub next_digits : (bytes : List ℕ) (i : ℕ) → i < length bytes → digits_of (take (i + 1) bytes) ≡ digits_of (take i bytes) ++ byte_digits (get_or bytes i 0)
+unfolding digits_of
+next_digits [] i h = absurd (omega arith)
+next_digits (b ∷ bytes) zero h = refl
+next_digits (b ∷ bytes) (suc i) h = let e : suc i + 1 ≡ suc (i + 1) = omega arith in rw (e, next_digits bytes i (omega arith))
+
+-- the library's digit is ours
+pub glyph_digit : (v : ℕ) → v < 16 → digit_glyph false v ≡ digit_of v
+glyph_digit v l = grind (arith, nat_tests)
 
 -- ---- the turns of a loop
 

@@ -16,7 +16,7 @@ use Rattle.std.specs.Prelude.{Some, None}
 use Rattle.lines.specs.declared.reader.Line.{Line}
 use lib.ListN.{length, take, drop, length-drop, drop_of_length-le}
 use lib.Seq.{drop-drop}
-use Rattle.lines.specs.Lines.{line_feed, in_front, lines_of, first_line, line_end, line_at, line_found, no_line_feed, joined, closed}
+use Rattle.lines.specs.Lines.{line_feed, in_front, lines_of, first_line, behind_line, line_end, line_at, line_found, no_line_feed, joined, closed}
 use Rattle.lines.specs.Laws.{TheLines}
 
 -- ---- the first line of a text
@@ -55,7 +55,7 @@ first_cons c (d ∷ text) = go (eqb c line_feed) (lines_of (d ∷ text)) (first_
     go false lines line same rest = rw (rest, add-one (length line), add-one (suc (length line)))
 
 -- A text that is not empty has its first line, and then the lines behind. Where that line has no line feed, nothing is behind.
-first_line_lem : (text : List ℕ) → 0 < length text → lines_of text ≡ first_line text ∷ lines_of (drop (length (first_line text) + 1) text)
+first_line_lem : (text : List ℕ) → 0 < length text → lines_of text ≡ first_line text ∷ lines_of (behind_line text)
 first_line_lem [] h = absurd (not-suc-le-zero h)
 first_line_lem (c ∷ text) h = first_cons c text
 
@@ -69,12 +69,15 @@ module _ (text : List ℕ) (at : ℕ) where
   pub line_part : take (line_end text at - at) (drop at text) ≡ first_line (drop at text)
   line_part = let l : line_end text at - at ≡ length (first_line (drop at text)) = omega arith in rw l (first_take (drop at text))
 
+  -- and from where the next one starts, whether or not it has a line feed, what is behind it
+  pub part_behind : drop (line_at text at).next text ≡ behind_line (drop at text)
+  part_behind = grind (arith, nat_tests, drop_of_length-le, drop-drop (length (first_line (drop at text)) + 1) at text)
+
 -- what a reader has found: something is left, and the line stands in the text
 pub record Found (text : List ℕ) (at : ℕ) (line : Line) : Type 0 where
   pub left : at < length text
   pub same : line ≡ line_at text at
   pub within : line.end ≤ length text
-  pub part : take (line.end - at) (drop at text) ≡ first_line (drop at text)
 
 pub found : (text : List ℕ) (at : ℕ) (line : Line) → Some line ≡ line_found text at → Found text at line
 found text at line e = go (ltb at (length text)) refl e
@@ -83,23 +86,15 @@ found text at line e = go (ltb at (length text)) refl e
     go true l e =
         let left = ltb-true at (length text) l in
         let same : line ≡ line_at text at = cc in
-        rw same (record { left = left; same = refl; within = end_within text at (omega arith); part = line_part text at })
+        rw same (record { left = left; same = refl; within = end_within text at (omega arith) })
     go false l e = absurd (cc)
-
--- what is behind the line, whether or not it has a line feed
-behind : (text : List ℕ) (at : ℕ) → lines_of (drop (line_end text at + 1) text) ≡ lines_of (drop (line_at text at).next text)
-behind text at = grind (arith, nat_tests, drop_of_length-le)
-
-next : (text : List ℕ) (at : ℕ) → at < length text
-    → lines_of (drop at text) ≡ first_line (drop at text) ∷ lines_of (drop (line_at text at).next text)
-next text at h = grind (arith, length-drop at text, first_line_lem (drop at text), drop-drop (length (first_line (drop at text)) + 1) at text, behind text at)
 
 on : (text : List ℕ) (at : ℕ) → at < length text → (at < (line_at text at).next) × ((line_at text at).next ≤ length text)
 on text at h = grind (arith, nat_tests, end_within)
 
-none : (text : List ℕ) (at : ℕ) → length text ≤ at → lines_of (drop at text) ≡ []
+none : lines_of [] ≡ []
 unfolding lines_of
-none text at h = rw (drop_of_length-le text h)
+none = refl
 
 -- ---- all the lines of a text
 
@@ -119,4 +114,4 @@ all_unbroken [] = refl
 all_unbroken (c ∷ text) = grind (arith, nat_tests, front_unbroken, all_unbroken text)
 
 pub the_lines : TheLines
-the_lines = record { whole = whole; unbroken = all_unbroken; next = next; none = none; part = line_part; on = on }
+the_lines = record { whole = whole; unbroken = all_unbroken; next = first_line_lem; none = none; part = line_part; behind = part_behind; on = on }

@@ -1,5 +1,5 @@
 -- Hexadecimal: two characters a byte, 0-9 and a-f, the high digit first.
-use Rattle.std.specs.Prelude.{Bool, ◌||◌, if◌then◌else◌, List, [], ◌∷◌, ℕ, ◌+◌, ◌-◌, ◌*◌, ◌/◌, ◌%◌, nat_le, nat_lt}
+use Rattle.std.specs.Prelude.{Bool, ◌||◌, if◌then◌else◌, List, [], ◌∷◌, ◌++◌, ℕ, ◌+◌, ◌-◌, ◌*◌, ◌/◌, ◌%◌, nat_le, nat_lt}
 use Rattle.refusals.specs.Verdict.{between}
 
 -- The characters 0, 9, a and f.
@@ -32,7 +32,10 @@ bytes_of [] = []
 bytes_of (high ∷ []) = []
 bytes_of (high ∷ low ∷ digits) = (value_of high * 16 + value_of low) ∷ bytes_of digits
 
--- The digits of bytes.
+-- The digits of a byte, and of bytes.
+abbrev pub byte_digits : ℕ → List ℕ
+byte_digits b = digit_of (b / 16) ∷ digit_of (b % 16) ∷ []
+
 unfoldable pub digits_of : List ℕ → List ℕ
 digits_of [] = []
-digits_of (b ∷ bytes) = digit_of (b / 16) ∷ digit_of (b % 16) ∷ digits_of bytes
+digits_of (b ∷ bytes) = byte_digits b ++ digits_of bytes

@@ -27,6 +27,10 @@ unfoldable pub first_line : List ℕ → List ℕ
 first_line [] = []
 first_line (c ∷ text) = if c == line_feed then [] else c ∷ first_line text
 
+-- What stands behind that line feed; nothing where there is none.
+abbrev pub behind_line : List ℕ → List ℕ
+behind_line text = drop (length (first_line text) + 1) text
+
 -- Where the line that starts at an index ends.
 abbrev pub line_end : List ℕ → ℕ → ℕ
 line_end text at = at + length (first_line (drop at text))

@@ -1,8 +1,9 @@
 // Hexadecimal both ways: two characters a byte, 0-9 and a-f, the high digit first.
-ghost use Rattle.std.specs.Prelude.{◌≡◌, true, ◌*◌, ◌<◌, ◌≤◌, length};
+ghost use Rattle.std.specs.Prelude.{◌≡◌, true, ◌*◌, ◌<◌, ◌≤◌, length, Some};
+ghost use Rattle.std.specs.Fmt.{WritesOnOk};
 ghost use Rattle.std.specs.List.{list_all};
 ghost use Rattle.cells.specs.Cell.{put};
-ghost use Rattle.lines.specs.Hex.{is_digit, value_of, digit_of, bytes_of, digits_of};
+ghost use Rattle.lines.specs.Hex.{is_digit, value_of, digit_of, bytes_of, byte_digits, digits_of};
 
 use std::fmt;
 
@@ -10,11 +11,21 @@ use std::fmt;
 #[derive(Clone, Copy, Debug, PartialEq, Eq)]
 pub struct Hexadecimal<'a>(pub &'a [u8]);
 
+// Prints a byte as two digits.
+#[tactic(auto, using(std::proofs::lemmas::Fmt::hex_byte, crate::proofs::Digits::glyph_digit))]
+fn write_byte<W: fmt::Write>(b: u8, f: &mut fmt::Formatter<W>) -> fmt::Result
+    ensures { WritesOnOk W.write_str_gives f.old result (byte_digits b) f.new }
+{
+    write!(f, "{b:02x}")
+}
+
 impl fmt::Display for Hexadecimal<'_> {
+    ghost output = { λ h. Some (digits_of h.0.now) };
+
     fn fmt<W: fmt::Write>(&self, f: &mut fmt::Formatter<W>) -> fmt::Result {
-        // Not by `encode`, which fills a slice and promises what it then holds: printing is lent none, and promises nothing.
+        // Not by `encode`, which fills a slice: printing is lent none.
         for b in self.0 {
-            write!(f, "{b:02x}")?;
+            write_byte(*b, f)?;
         }
         Ok(())
     }
@@ -32,7 +43,7 @@ fn value_of(c: u8) -> u8
     requires { is_digit c ≡ true }
     ensures { (result ≡ value_of c) × (result < 16) }
 {
-    // `to_digit`, which takes A to F too, would make reading take twice as long: 90 us for 32,768 digits in place of 44.
+    // Not by `to_digit`, which takes A to F too, and longer.
     match c {
         b'0'..=b'9' => c - b'0',
         _ => c - b'a' + 10,

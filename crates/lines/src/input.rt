@@ -5,13 +5,13 @@ ghost use Rattle.lines.specs.Input.{Fills};
 
 use std::io::{self, ErrorKind, Read};
 
-// Reads what a reader has to the front of `text`, as much as there is room for. Gives how many bytes that is; those behind them
-// stay. Where it fails, any byte of `text` may have been set.
+// Reads what a reader has to the front of `text`, as much as there is room for. Gives how many bytes that is; those behind them stay. Where
+// it fails, any byte of `text` may have been set. A read that is interrupted is tried again, up to 2^64 - 1 times.
 pub fn read_text<R: Read + Drop>(reader: R, text: &mut [u8]) -> io::Result<usize>
     ensures room { IfOk result (λ n. n ≤ length text.old) }
     ensures rest { IfOk result (λ n. drop n text.new ≡ drop n text.old) }
     ensures all { IfOk result (λ n. IfSome (R.remaining reader) (Fills text.old n text.new)) }
-    ensures retried { IfErr result (λ e. error_kind e ≢ ErrorKind.Interrupted) }
+    ensures uninterrupted { IfErr result (λ e. error_kind e ≢ ErrorKind.Interrupted) }
 {
     // `as`, since u64 and usize are not `From` each other.
     let mut front = reader.take(text.len() as u64);

@@ -1,4 +1,4 @@
-// The lines of a text, a reader of them, hexadecimal, and the reading of a text from standard input.
+// The lines of a text, a reader of them, hexadecimal, and the reading of a text from standard input or another reader.
 #![tactic(auto)]
 
 ghost use Rattle.lines.specs.Laws.{TheLines, TheDigits};
@@ -13,3 +13,6 @@ pub fn the_lines()
     ensures lines { TheLines }
     ensures digits { TheDigits }
 {}
+
+#[cfg(test)]
+mod tests;

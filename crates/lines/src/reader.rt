@@ -1,19 +1,20 @@
 // The lines of a text, and a reader that holds the text and how far it has been read.
-ghost use Rattle.std.specs.Prelude.{◌≡◌};
+ghost use Rattle.std.specs.Prelude.{◌≡◌, [], IfSome, IfNone};
 ghost use Rattle.lines.specs.Lines.{line_end, line_found};
+ghost use Rattle.lines.specs.Reader.{left_of, FrontLine};
 
 // A line: where it ends, and where the next one starts.
 #[derive(Clone, Copy, Debug, PartialEq, Eq)]
-pub struct Line {
-    pub end: usize,
-    pub next: usize,
+struct Line {
+    end: usize,
+    next: usize,
 }
 
 // A text, and how far it has been read. The project's rules name this form, and the thin functions on it below.
 #[derive(Clone, Copy, Debug, PartialEq, Eq)]
 pub struct Reader<'a> {
-    pub text: &'a [u8],
-    pub at: usize,
+    text: &'a [u8],
+    at: usize,
 }
 
 // Where the line that starts at `at` ends: at the first line feed from there on, or with the text; at `at` where that is past it.
@@ -37,24 +38,21 @@ fn line_at(text: &[u8], at: usize) -> Option<Line>
 }
 
 impl<'a> Reader<'a> {
-    // A reader of a text that has been read up to `at`.
-    pub fn new(text: &'a [u8], at: usize) -> Reader<'a>
-        ensures { (result.text ≡ text.entry) × (result.at ≡ at) }
+    // A reader at the start of a text.
+    pub fn new(text: &'a [u8]) -> Reader<'a>
+        ensures { left_of result ≡ text.now }
     {
-        Reader { text, at }
+        Reader { text, at: 0 }
     }
 
-    // The line that comes next, if one is left.
-    pub fn line(self) -> Option<Line>
-        ensures { result ≡ line_found self.entry.text.now self.entry.at }
+    // The line that comes next, and the reader moved on to the line after it; none where the text ends.
+    pub fn next_line(self) -> Option<(&'a [u8], Reader<'a>)>
+        ensures line { IfSome result (λ found.
+            FrontLine (left_of self.entry) found.0.now (left_of found.1)) }
+        ensures end { IfNone result (left_of self.entry ≡ []) }
     {
-        line_at(self.text, self.at)
-    }
-
-    // The reader moved on to where another line starts.
-    pub fn moved(self, at: usize) -> Reader<'a>
-        ensures { (result.text ≡ self.entry.text) × (result.at ≡ at) }
-    {
-        Reader { at, ..self }
+        let Reader { text, at } = self;
+        let Line { end, next } = line_at(text, at)?;
+        Some((&text[at..end], Reader { text, at: next }))
     }
 }

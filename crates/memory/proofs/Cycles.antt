@@ -5,21 +5,21 @@ use mathlib.Core.List.{List, []}
 use Prim.Native.Nat.{ℕ, zero, suc, ◌%◌, ◌≤◌, ◌<◌}
 use native.Mathlib.Omega.{arith}
 use Rattle.std.proofs.lemmas.Bool.{and_parts}
-use borrow.Author.Tests.{eqb-true, eq-eqb}
+use borrow.Author.Tests.{eqb-true, eq-eqb, ne_eqb, lt-ltb}
 use lib.Dec.{eqb}
 use lib.ListN.{length, get_or}
 use Rattle.std.specs.List.{sum}
 use Rattle.std.specs.Prelude.{Ok, Err}
 use Rattle.refusals.specs.declared.Refusal.{Refusal}
-use Rattle.refusals.specs.declared.Reason.TheVariants as reason
 use Rattle.refusals.specs.declared.Answer.TheVariants.{Served}
-use Rattle.refusals.specs.Verdict.{Verdict, Accepted, refused, answer_by}
+use Rattle.refusals.specs.Verdict.{Verdict, Accepted, refusal_of, refused, answer_by}
 use Rattle.refusals.proofs.Verdicts.{answered, check_passed, never_check, never_then, skips}
 use Rattle.simplex.specs.Shape.{limit_of, is_bank}
 use Rattle.simplex.specs.Code.{Packet, Sized, bank_cell, xor_of_banks}
 use Rattle.simplex.proofs.Banks.{set_linear, cell_one}
 use Rattle.simplex.proofs.Limit.{limit_of_reads}
-use Rattle.audit.specs.Plan.{Pair, opens, opened, Serves}
+use Rattle.audit.specs.declared.Pair.{Pair}
+use Rattle.audit.specs.Plan.{opens, opened, Serves}
 use Rattle.audit.proofs.Reading.{first_to, second_to}
 use Rattle.audit.proofs.Served.{opens_xor, opened_yields}
 use Rattle.layout.specs.declared.Shape.{Shape}
@@ -28,7 +28,8 @@ use Rattle.layout.specs.Occupancy.{is_full}
 use Rattle.reads.specs.Reads.{Reads, reads_in, read_at, counts_of, symbols_read}
 use Rattle.reads.specs.Parts.{Named}
 use Rattle.reads.proofs.Counting.{reads_many}
-use Rattle.reads.proofs.Accepted.{Accepts, accepts, accepted, all_named}
+use Rattle.reads.specs.Laws.{RightList}
+use Rattle.reads.proofs.Accepted.{Accepts, accepts, accepted, form_named, all_named, list_right, right_list}
 use Rattle.reads.proofs.Refused.{over}
 use Rattle.cycle.specs.Cycle.{xor_of_cells}
 use Rattle.cycle.specs.Served.{PlansAudited, SystematicLines, OpenedOnce}
@@ -38,7 +39,9 @@ use Rattle.memory.specs.declared.State.{State}
 use Rattle.memory.specs.State.{sound, Sound}
 use Rattle.memory.specs.Operations.{store_refusal, cycle_refusal, cycle_output, cycle_schedule}
 use Rattle.memory.specs.CycleLaw.{RightForm, NamedRowsFull, NoneTooMany, ServedCycle, TooMany, CycleLaw}
-use Rattle.memory.proofs.States.{tests, sound_words, store_facts}
+use Rattle.reads.proofs.Wrong.{wrong_list}
+use Rattle.memory.specs.Laws.{RightCycle, WrongCycle, FormInWords}
+use Rattle.memory.proofs.States.{tests, sound_words, words_sound, store_facts}
 
 -- ---- what the acceptance of a cycle tells
 
@@ -60,6 +63,52 @@ pub facts_read : (state : State) (size : ℕ) (list : List ℕ) (out schedule : 
 unfolding cycle_refusal
 facts_read state size list out schedule f =
     rw (f.sound_state, eq-eqb _ _ f.store, accepted state.shape (is_full state.rows) list out schedule f.whole f.reads)
+
+-- when it is accepted, in words
+pub cycle_facts : (state : State) (size : ℕ) (list : List ℕ) (out schedule : ℕ) → cycle_refusal state size list out schedule ≡ Accepted
+    → RightCycle state size list out schedule
+unfolding cycle_refusal
+cycle_facts state size list out schedule e =
+    let r : RightList state.shape (is_full state.rows) list out schedule = search (tests, list_right) in
+    record { sound = search (tests, sound_words); store = search tests; reads = r }
+
+pub facts_cycle : (state : State) (size : ℕ) (list : List ℕ) (out schedule : ℕ) → RightCycle state size list out schedule
+    → cycle_refusal state size list out schedule ≡ Accepted
+unfolding cycle_refusal
+facts_cycle state size list out schedule r =
+    rw (words_sound state r.sound, eq-eqb _ _ r.store, right_list state.shape (is_full state.rows) list out schedule r.reads)
+
+-- the right form in words
+pub form_words : (state : State) (size : ℕ) (list : List ℕ) (out schedule : ℕ) → RightForm state size list out schedule
+    → FormInWords state size list out schedule
+form_words state size list out schedule f =
+    let lent = store_facts state size f.store in
+    let fit = and_parts _ _ (check_passed 16 0 _ f.buffers) in
+    record {
+      sound = sound_words state lent.0;
+      store = lent.1;
+      whole = eqb-true _ _ (check_passed 13 0 (eqb (length list % 3) 0) f.whole);
+      named = λ n l. form_named state.shape (reads_in list) n (f.named n l);
+      output = eqb-true _ _ fit.0;
+      lines = eqb-true _ _ fit.1;
+    }
+
+pub words_form : (state : State) (size : ℕ) (list : List ℕ) (out schedule : ℕ) → FormInWords state size list out schedule
+    → RightForm state size list out schedule
+words_form state size list out schedule w = record {
+  store = rw (words_sound state w.sound, eq-eqb _ _ w.store);
+  whole = rw (eq-eqb _ _ w.whole);
+  named = λ n l. let p = w.named n l in rw (lt-ltb _ _ p.row, lt-ltb _ _ p.group, lt-ltb _ _ p.symbol);
+  buffers = rw (eq-eqb _ _ w.output, eq-eqb _ _ w.lines);
+}
+
+pub wrong_cycle : (state : State) (size : ℕ) (list : List ℕ) (out schedule : ℕ) → Sound state
+    → WrongCycle state size list out schedule (cycle_refusal state size list out schedule)
+unfolding cycle_refusal
+wrong_cycle state size list out schedule s = record {
+  six = λ e. rw (words_sound state s, ne_eqb _ _ e);
+  reads = λ e. rw (words_sound state s, eq-eqb _ _ e) (wrong_list state.shape (is_full state.rows) list out schedule);
+}
 
 -- ---- what an answer tells of the verdict
 
@@ -110,11 +159,11 @@ module _ (state : State) (store list out schedule : List ℕ) where
   readable form full few =
       let lent = store_facts state (length store) form.store in
       let named = all_named shape reads form.named in
-      let fit = and_parts _ _ (check_passed reason.BufferLengths 0 _ form.buffers) in
+      let fit = and_parts _ _ (check_passed 16 0 _ form.buffers) in
       record {
         sound_state = lent.0;
         store = lent.1;
-        whole = eqb-true _ _ (check_passed reason.ListLength 0 (eqb (length list % 3) 0) form.whole);
+        whole = eqb-true _ _ (check_passed 13 0 (eqb (length list % 3) 0) form.whole);
         reads = record {
           named = named;
           rows_full = full;
@@ -124,19 +173,20 @@ module _ (state : State) (store list out schedule : List ℕ) where
         };
       }
 
-  too_many : (group : ℕ) → refusal ≡ refused reason.TooManyReads group → TooMany shape reads group
+  too_many : (group : ℕ) → refusal ≡ refused 12 group → TooMany shape reads group
   unfolding cycle_refusal
   too_many group e =
-      let five = never_check reason.TooManyReads reason.BrokenState 0 (sound state) (λ z. cc) in
-      let six = never_check reason.TooManyReads reason.StoreLength 0 (eqb (length store) (store_size shape)) (λ z. cc) in
-      let past = skips reason.TooManyReads (store_refusal state (length store)) _ group (never_then reason.TooManyReads _ _ five six) e in
+      let five = never_check 12 5 0 (sound state) (λ z. cc) in
+      let six = never_check 12 6 0 (eqb (length store) (store_size shape)) (λ z. cc) in
+      let past = skips 12 (store_refusal state (length store)) _ group (never_then 12 _ _ five six) e in
       let ok = sound_words state (store_facts state (length store) past.0).0 in
       let o = over shape (is_full state.rows) list (length out) (length schedule) group past.1 in
-      let more : limit_of shape.k < length (symbols_read reads group) = rw (many ok o.named group) o.many in
+      let over = o.lowest_over in
+      let more : limit_of shape.k < length (symbols_read reads group) = rw (many ok o.named group) over.many in
       record {
-        below = o.below;
+        below = over.below;
         many = more;
-        lowest = λ lower l. rw (many ok o.named lower) (o.lowest lower l);
+        lowest = λ lower l. rw (many ok o.named lower) (over.lowest lower l);
         fails = λ sets. limit_of_reads shape.k shape.p (symbols_read reads group) ok.ranges.bytes.0 sets more;
       }
 
@@ -147,7 +197,7 @@ module _ (state : State) (store list out schedule : List ℕ) where
     yields = λ e n l. opened_yields shape.k {usable = is_bank shape.k} (λ b h. h) shape.p (read_at reads n).symbol _ ((serves_all_lem (facts e)).each n l).pair;
     once = λ e. opens_once (facts e);
     limit = λ some group. limit_of_reads shape.k shape.p (symbols_read reads group) some;
-    refused = λ group e. too_many group (answered_no refusal (record { reason = reason.TooManyReads; place = group }) e);
+    refused = λ group e. too_many group (answered_no refusal (refusal_of 12 group) e);
   }
 
   pub audited : answer_by Served refusal ≡ Ok Served → PlansAudited shape reads

@@ -12,7 +12,6 @@ use lib.ListN.{length}
 use Rattle.std.specs.Prelude.{Ok, Err}
 use Rattle.bits.specs.Marks.{how_many}
 use Rattle.bits.proofs.Marks.{same_many}
-use Rattle.refusals.specs.declared.Reason.TheVariants as reason
 use Rattle.refusals.specs.Verdict.{Verdict, Accepted, refused, answer_by, if_refused, ◌then◌}
 use Rattle.simplex.specs.Code.{bank_cell}
 use Rattle.layout.specs.declared.Shape.{Shape}
@@ -59,7 +58,7 @@ pub record Follows (meaning : Meaning) (shape : Shape) (known : Known) (memory :
 -- broken: a broken state is refused with 5. follows: else the verdict is that on what is known
 pub record Lawful (meaning : Meaning) : Type 0 where
   pub broken : (memory : Memory) → sound memory.state ≡ false
-      → meaning.outcome memory ≡ record { state = memory.state; answer = refused reason.BrokenState 0 }
+      → meaning.outcome memory ≡ record { state = memory.state; answer = refused 5 0 }
   pub follows : (known : Known) (memory : Memory) → Agrees memory.state.shape known memory
       → Follows meaning memory.state.shape known memory (meaning.verdict memory.state.shape known)
 
@@ -72,7 +71,7 @@ abbrev pub lent : Memory → Verdict
 lent memory = store_refusal memory.state (length memory.store)
 
 pub record Tests (first : Memory → Verdict) : Type 0 where
-  broken : (memory : Memory) → sound memory.state ≡ false → first memory ≡ refused reason.BrokenState 0
+  broken : (memory : Memory) → sound memory.state ≡ false → first memory ≡ refused 5 0
   sound : (memory : Memory) → Sound memory.state → length memory.store ≡ store_size memory.state.shape → first memory ≡ Accepted
 
 pub tests_state : Tests unlent

@@ -25,9 +25,9 @@ use Rattle.memory.specs.declared.State.{State}
 use Rattle.memory.specs.State.{full_rows, Sound, with_rows, row_emptied, rows_emptied}
 use Rattle.memory.specs.Operations.{outcome_by, release_refusal, release_outcome, release_set_refusal, release_set_outcome}
 use Rattle.memory.specs.Laws.{Emptied, times_in, Names, ReleasedSingly}
-use Rattle.memory.proofs.States.{sound_words, words_sound, none_past, emptied_sound, one_fewer, set_sound, set_count}
-use Rattle.memory.proofs.Lawful.Release.{released_facts}
-use Rattle.memory.proofs.Emptying.{full_below, set_released_facts, facts_set_released}
+use Rattle.memory.proofs.States.{words_sound, none_past, emptied_sound, one_fewer, set_sound, set_count}
+use Rattle.memory.proofs.Lawful.Release.{release_facts}
+use Rattle.memory.proofs.Emptying.{full_below, set_facts, facts_set}
 
 -- ---- a list of rows
 
@@ -90,9 +90,9 @@ in_turn (row ∷ rows) state after test s past full left names =
 were_full : (rows : List ℕ) (state after : State) → ReleasedSingly state rows after → (r : ℕ) → 1 ≤ times_in r rows → is_full state.rows r ≡ true
 were_full [] state after h r l = absurd (omega arith)
 were_full (row ∷ rows) state after h r l =
-    let w = released_facts state row h.0 in
+    let w = release_facts state row h.0 in
     ⊎_elim (λ e. rw e w.full)
-    (λ n. (one_fewer state (sound_words state w.sound_state) row w.below w.full).others r n
+    (λ n. (one_fewer state w.sound row w.below w.full).others r n
     ∙ were_full rows (row_emptied state row) after (rw h.0 at h.1) r (omega (arith, l, times_other row r rows n)))
     (cases_eq r row)
 
@@ -116,10 +116,10 @@ module _ (state : State) (s : Sound state) (set : ℕ) where
 
 module _ (state : State) (set : ℕ) (h : set < 2 ^ MOST_ROWS) (yes : release_set_refusal state set ≡ Accepted) where
   whole : Sound state
-  whole = sound_words state (set_released_facts state set yes).sound_state
+  whole = (set_facts state set yes).sound
 
   all_full : (r : ℕ) → marked set r ≡ true → is_full state.rows r ≡ true
-  all_full r e = (set_released_facts state set yes).full r (passes_below (marked set) MOST_ROWS (lt_none set MOST_ROWS h) r e) e
+  all_full r e = (set_facts state set yes).full r (passes_below (marked set) MOST_ROWS (lt_none set MOST_ROWS h) r e) e
 
   pub set_released_lem : Emptied set state (release_set_outcome state set).state
   set_released_lem = rw yes (record {
@@ -136,7 +136,7 @@ module _ (state : State) (set : ℕ) (h : set < 2 ^ MOST_ROWS) (yes : release_se
 pub singly : (state after : State) (set : ℕ) (rows : List ℕ) → Sound state → set < 2 ^ MOST_ROWS → Names set rows
     → ReleasedSingly state rows after ↔ ((release_set_refusal state set ≡ Accepted) × ((release_set_outcome state set).state ≡ after))
 singly state after set rows s h names = (
-  λ released. let yes = facts_set_released state set s (λ r e. were_full rows state after released r (once r e)) in
+  λ released. let yes = facts_set state set (record { sound = s; full = λ r _ e. were_full rows state after released r (once r e) }) in
       (yes, one_end rows state (release_set_outcome state set).state after (each_accepted state set h yes rows names) released),
   λ accepted. rw accepted.1 at (each_accepted state set h accepted.0 rows names),
 )
@@ -147,7 +147,7 @@ singly state after set rows s h names = (
 pub empty_set_lem : (state : State) → Sound state → release_set_outcome state 0 ≡ record { state = state; answer = Ok (FullRows (full_rows state)) }
 empty_set_lem state s =
     let full : (r : ℕ) → marked 0 r ≡ true → is_full state.rows r ≡ true = λ r e. absurd (false≢true (sym (unmarked r) ∙ e)) in
-    rw (facts_set_released state 0 s full)
+    rw (facts_set state 0 (record { sound = s; full = λ r _. full r }))
     (ap (λ (made : State). outcome_by state made Accepted) (sym (in_set_turn state s 0 [] full (λ r. rw (unmarked r)))))
 
 -- ---- the rows of a set in a list

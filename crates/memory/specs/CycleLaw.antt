@@ -1,7 +1,6 @@
 -- The cycle law: one claim about a whole read cycle, for any state, store, list and buffers, whoever made them.
 use Rattle.std.specs.Prelude.{◌≡◌, ◌↔◌, true, List, ℕ, ◌≤◌, ◌<◌, length, Result, Ok}
 use Rattle.refusals.specs.declared.Refusal.{Refusal}
-use Rattle.refusals.specs.declared.Reason.TheVariants as reason
 use Rattle.refusals.specs.declared.Answer.{Answer}
 use Rattle.refusals.specs.declared.Answer.TheVariants.{Served}
 use Rattle.refusals.specs.Verdict.{Accepted, refused}
@@ -63,4 +62,4 @@ pub record CycleLaw (state : State) (store list : List ℕ) (out_size schedule_s
       → Yields state.shape.k state.shape.p (opened (line schedule n)) (read_at (reads_in list) n).symbol
   pub once : answer ≡ Ok Served → OpenedOnce (reads_in list) schedule
   pub limit : 1 ≤ state.shape.p → (group : ℕ) → LimitFor state.shape.k state.shape.p (symbols_read (reads_in list) group)
-  pub refused : (group : ℕ) → answer ≡ refused reason.TooManyReads group → TooMany state.shape (reads_in list) group
+  pub refused : (group : ℕ) → answer ≡ refused 12 group → TooMany state.shape (reads_in list) group

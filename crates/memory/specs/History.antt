@@ -11,7 +11,7 @@ use Rattle.layout.specs.declared.PacketName.{PacketName}
 use Rattle.memory.specs.declared.Outcome.{Outcome}
 use Rattle.refusals.specs.declared.Answer.{Answer}
 use Rattle.refusals.specs.declared.Answer.TheVariants.{Served}
-use Rattle.layout.specs.Shape.{store_size, generation_size, CellOf, cell_at}
+use Rattle.layout.specs.Shape.{shape_refusal, store_size, generation_size, CellOf, cell_at}
 use Rattle.rows.specs.Rows.{packets_in, packet_in, group_written, edited}
 use Rattle.rows.specs.Laws.{Edited}
 use Rattle.reads.specs.Reads.{reads_in, read_at}
@@ -139,5 +139,5 @@ pub record Remembers (shape : Shape) (history : History) (memory : Memory) : Typ
 -- So it is after every history, from an accepted set-up and any store of the right length.
 abbrev pub RecallLaw : Type 0
 RecallLaw =
-    (shape : Shape) → (set_up_of shape).verdict ≡ Accepted → (store : List ℕ) → length store ≡ store_size shape → (history : History)
+    (shape : Shape) → shape_refusal shape ≡ Accepted → (store : List ℕ) → length store ≡ store_size shape → (history : History)
     → Remembers shape history (run (record { state = (set_up_of shape).state; store = store }) history)

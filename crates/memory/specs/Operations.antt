@@ -1,10 +1,8 @@
 -- Set-up, write, packet update, release of a row or of a row set, and the read cycle: when each is refused, what it answers, and what
 -- state, store and buffers it leaves.
-use Rattle.std.specs.Prelude.{Bool, not, ◌||◌, List, ℕ, ◌==◌, nat_lt, length, Result, Ok, Err}
+use Rattle.std.specs.Prelude.{Bool, not, ◌||◌, List, ℕ, ◌*◌, ◌==◌, nat_lt, length, Result, Ok, Err}
 use Rattle.bits.specs.Marks.{marked}
 use Rattle.refusals.specs.declared.Refusal.{Refusal}
-use Rattle.refusals.specs.declared.Reason.{Reason}
-use Rattle.refusals.specs.declared.Reason.TheVariants as reason
 use Rattle.refusals.specs.Verdict.{Verdict, check, answer_by, ◌then◌, if_refused, first_refusal}
 use Rattle.layout.specs.declared.Shape.{Shape}
 use Rattle.layout.specs.declared.PacketName.{PacketName}
@@ -13,17 +11,23 @@ use Rattle.reads.specs.Refusals.{packet_refusal, list_refusal}
 use Rattle.reads.specs.Reads.{reads_in}
 use Rattle.cycle.specs.Cycle.{plans_of, packets_out, lines_out}
 use Rattle.memory.specs.declared.State.{State}
-use Rattle.memory.specs.declared.SetUp.{SetUp}
 use Rattle.memory.specs.declared.Outcome.{Outcome}
-use Rattle.refusals.specs.declared.Answer.TheVariants.{FullRows, Served}
+use Rattle.refusals.specs.declared.Answer.{Answer}
+use Rattle.refusals.specs.declared.Answer.TheVariants.{Ready, FullRows, Served}
 use Rattle.layout.specs.declared.TheConstants.{MOST_ROWS}
 use Rattle.layout.specs.Occupancy.{is_full, is_empty}
-use Rattle.layout.specs.Shape.{shape_refusal, store_size, generation_size}
+use Rattle.simplex.specs.Shape.{limit_of}
+use Rattle.layout.specs.Shape.{shape_refusal, banks, store_size, generation_size}
 use Rattle.memory.specs.State.{full_rows, sound, empty, zero_state, row_filled, row_emptied, rows_emptied}
 
+-- What set-up answers: m·N, the banks of all groups, and 2^(K-1), the most reads of one in a cycle.
+abbrev pub ready : Shape → Answer
+ready shape = Ready (shape.m * banks shape) (limit_of shape.k)
+
 -- What set-up gives: a memory of that shape with every row empty, or a refusal and a state of zeros.
-abbrev pub set_up_of : Shape → SetUp
-set_up_of shape = record { state = if_refused zero_state (empty shape) (shape_refusal shape); verdict = shape_refusal shape }
+abbrev pub set_up_of : Shape → Outcome
+set_up_of shape =
+    record { state = if_refused zero_state (empty shape) (shape_refusal shape); answer = answer_by (ready shape) (shape_refusal shape) }
 
 -- What an operation gives that makes one state into another: refused, the state as it was and the refusal; else the state made, and the
 -- number of its full rows.
@@ -37,20 +41,20 @@ outcome_after before (Err refusal) = record { state = before; answer = Err refus
 
 -- 5, the state is broken.
 abbrev pub state_refusal : State → Verdict
-state_refusal state = check reason.BrokenState 0 (sound state)
+state_refusal state = check 5 0 (sound state)
 
 -- Where a store is lent: 5; then 6, the store's length is wrong.
 abbrev pub store_refusal : State → (size : ℕ) → Verdict
-store_refusal state size = state_refusal state then check reason.StoreLength 0 (size == store_size state.shape)
+store_refusal state size = state_refusal state then check 6 0 (size == store_size state.shape)
 
 -- ---- write
 
 -- With these rows empty. 7, the row is G or more. 8, the row is full. 10, the generation isn't m·K·P bytes.
 abbrev pub write_checks : Shape → (empty : ℕ → Bool) → (row len : ℕ) → Verdict
 write_checks shape empty row len =
-    check reason.NoSuchRow 0 (nat_lt row shape.g)
-    then check reason.FullRow 0 (empty row)
-    then check reason.PacketsLength 0 (len == generation_size shape)
+    check 7 0 (nat_lt row shape.g)
+    then check 8 0 (empty row)
+    then check 10 0 (len == generation_size shape)
 
 -- 5 and 6; then 7, 8, 10.
 unfoldable pub write_refusal : State → (size row len : ℕ) → Verdict
@@ -69,7 +73,7 @@ write_store state store row generation =
 -- packet isn't P bytes.
 abbrev pub update_checks : Shape → (full : ℕ → Bool) → (name : PacketName) → (len : ℕ) → Verdict
 update_checks shape full name len =
-    packet_refusal shape full 0 name then check reason.PacketsLength 0 (len == shape.p)
+    packet_refusal shape full 0 name then check 10 0 (len == shape.p)
 
 -- 5 and 6; then 7, 14, 15, 9, 10.
 unfoldable pub update_refusal : State → (size : ℕ) → (name : PacketName) → (len : ℕ) → Verdict
@@ -88,7 +92,7 @@ update_store state store name packet =
 
 -- 7, the row is G or more. 9, the row is empty.
 abbrev pub release_checks : Shape → (full : ℕ → Bool) → (row : ℕ) → Verdict
-release_checks shape full row = check reason.NoSuchRow 0 (nat_lt row shape.g) then check reason.EmptyRow 0 (full row)
+release_checks shape full row = check 7 0 (nat_lt row shape.g) then check 9 0 (full row)
 
 -- 5; then 7, 9.
 unfoldable pub release_refusal : State → (row : ℕ) → Verdict
@@ -100,13 +104,13 @@ release_outcome state row = outcome_by state (row_emptied state row) (release_re
 -- ---- release of a row set (customers say: clearing several rows): row r's mark is bit r of the set. Marks from the 64th on, which no word
 -- has, count for nothing.
 
--- Accepted where every row of a set passes a test; else refused for this reason, with the first row that doesn't as place.
-unfoldable pub each_row : (why : Reason) → (set : ℕ) → (test : ℕ → Bool) → Verdict
-each_row why set test = first_refusal (λ row. check why row (not (marked set row) || test row)) MOST_ROWS
+-- Accepted where every row of a set passes a test; else refused by this number, with the first row that doesn't as place.
+unfoldable pub each_row : (number set : ℕ) → (test : ℕ → Bool) → Verdict
+each_row number set test = first_refusal (λ row. check number row (not (marked set row) || test row)) MOST_ROWS
 
 -- 7, a marked row is G or more. Then 9, a marked row is empty.
 abbrev pub release_set_checks : Shape → (full : ℕ → Bool) → (set : ℕ) → Verdict
-release_set_checks shape full set = each_row reason.NoSuchRow set (λ row. nat_lt row shape.g) then each_row reason.EmptyRow set full
+release_set_checks shape full set = each_row 7 set (λ row. nat_lt row shape.g) then each_row 9 set full
 
 -- 5; then 7, 9.
 unfoldable pub release_set_refusal : State → (set : ℕ) → Verdict

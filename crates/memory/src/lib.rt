@@ -3,19 +3,20 @@
 
 ghost use Rattle.std.specs.Prelude.{◌≡◌, length, Ok};
 ghost use Rattle.bits.specs.Marks.{marked};
-ghost use Rattle.refusals.specs.Verdict.{answer_by};
+ghost use Rattle.refusals.specs.Verdict.{number_of, answer_by};
 ghost use Rattle.layout.specs.Judged.{Judged};
 ghost use Rattle.memory.specs.State.{empty, with_rows, row_filled, row_emptied, rows_emptied};
-ghost use Rattle.memory.specs.Operations.{set_up_of, outcome_after, state_refusal, store_refusal, write_refusal, write_outcome, write_store, update_refusal, update_outcome, update_store, release_refusal, release_outcome, each_row, release_set_refusal, release_set_outcome, cycle_refusal, cycle_outcome, cycle_output, cycle_schedule};
+ghost use Rattle.memory.specs.Operations.{ready, set_up_of, outcome_after, state_refusal, store_refusal, write_refusal, write_outcome, write_store, update_refusal, update_outcome, update_store, release_refusal, release_outcome, each_row, release_set_refusal, release_set_outcome, cycle_refusal, cycle_outcome, cycle_output, cycle_schedule};
 ghost use Rattle.reads.specs.Reads.{reads_in};
 ghost use Rattle.cycle.specs.Served.{PlansAudited, SystematicLines};
 ghost use Rattle.refusals.specs.declared.Answer.TheVariants.{Served};
 ghost use Rattle.memory.specs.CycleLaw.{CycleLaw};
-ghost use Rattle.memory.specs.Laws.{StateLaws, RowLaws, UpdateLaws, ReleaseSetLaws};
+ghost use Rattle.memory.specs.Laws.{StateLaws, SetUpLaws, WriteLaws, UpdateLaws, ReleaseLaws, ReleaseSetLaws, CycleLaws};
 ghost use Rattle.memory.specs.History.{RecallLaw};
 
 use layout::{Geometry, PacketName, Rows, Shape, Store};
 use refusals::{Answer, Reason, Refusal, Verdict, check, refused};
+use simplex::Group;
 
 // What a memory's operations are given and give back.
 #[derive(Clone, Copy, Debug, Default, PartialEq, Eq)]
@@ -24,16 +25,8 @@ pub struct State {
     pub rows: Rows,
 }
 
-// What set-up gives: the state, and whether it was accepted. No `Result`, since the project's rules have a refused set-up return a state
-// too, of zeros.
-#[derive(Clone, Copy, Debug, PartialEq, Eq)]
-pub struct SetUp {
-    pub state: State,
-    pub verdict: Verdict,
-}
-
 // What an operation gives: the state, and its answer or refusal. The state comes back refused or not, as the project's rules say, so it
-// stands beside the `Result`.
+// stands beside the `Result`: refused, it is the one that was given, and after a refused set-up one of zeros.
 #[derive(Clone, Copy, Debug, PartialEq, Eq)]
 pub struct Outcome {
     pub state: State,
@@ -55,16 +48,32 @@ impl Outcome {
 // Carries the laws of the memory. It does nothing.
 pub fn the_memory()
     ensures states { StateLaws }
-    ensures rows { RowLaws }
+    ensures set_ups { SetUpLaws }
+    ensures writes { WriteLaws }
     ensures updates { UpdateLaws }
+    ensures releases { ReleaseLaws }
     ensures release_sets { ReleaseSetLaws }
+    ensures cycles { CycleLaws }
     ensures recall { RecallLaw }
 {}
+
+// What set-up answers.
+#[tactic(auto, using(simplex::proofs::Tables::banks_of_lem))]
+fn ready(geometry: Geometry) -> Answer
+    ensures { result ≡ ready geometry.shape }
+{
+    let Shape { k, m, .. } = geometry.shape;
+    let Group { banks, limit } = simplex::group_of(k);
+    Answer::Ready {
+        banks: m * banks,
+        most_reads: limit,
+    }
+}
 
 // Accepted where every row of a set is in another; else refused for this reason, at the first that isn't.
 #[tactic(auto, using(crate::proofs::Emptying::refused_by_first, crate::proofs::Emptying::accepted_by_first))]
 fn judge_rows(reason: Reason, set: u64, within: u64) -> Verdict
-    ensures { result ≡ each_row reason set (marked within) }
+    ensures { result ≡ each_row (number_of reason) set (marked within) }
 {
     bits::first(bits::without(set, within)).map_or(Ok(()), |row| refused(reason, row))
 }
@@ -80,13 +89,21 @@ impl State {
         }
     }
 
-    // Sets up a memory with every row empty, or refuses the shape: 1 to 4.
-    pub fn set_up(shape: Shape) -> SetUp
+    // Sets up a memory with every row empty, and answers how many banks it has in all and the most reads of a group in a cycle; or refuses
+    // the shape: 1 to 4.
+    pub fn set_up(shape: Shape) -> Outcome
         ensures { result ≡ set_up_of shape }
     {
-        let verdict = layout::judge_shape(shape);
-        let state = verdict.map(|()| State::empty(shape)).unwrap_or_default();
-        SetUp { state, verdict }
+        match Geometry::try_from(shape) {
+            Ok(geometry) => Outcome {
+                state: State::empty(shape),
+                answer: Ok(ready(geometry)),
+            },
+            Err(refusal) => Outcome {
+                state: State::default(),
+                answer: Err(refusal),
+            },
+        }
     }
 
     // The geometry of a state that is not broken; else 5: it breaks set-up's ranges, or a row from G on is full.

@@ -1,33 +1,37 @@
 -- The planner's answer, from what its parts say.
-use mathlib.Core.Path.{◌≡◌, sym, ap, ◌∙◌}
+use mathlib.Core.Path.{◌≡◌, refl, sym, ap, ◌∙◌, subst}
 use mathlib.Core.Bool.{Bool, cond}
 use mathlib.Core.Logic.{◌↔◌}
 use mathlib.Core.List.{List}
-use Prim.Native.Nat.{ℕ, ◌+◌, ◌-◌, ◌≤◌}
+use Prim.Native.Nat.{ℕ, ◌+◌, ◌-◌, ◌≤◌, ◌<◌}
 use native.Mathlib.Omega.{arith}
 use borrow.Author.Tests.{le-leb, leb-true}
 use lib.Dec.{leb}
-use lib.ListN.{length}
+use lib.ListN.{length, get_or}
 use Rattle.std.specs.Prelude.{Some, Ok}
-use Rattle.refusals.specs.declared.Reason.TheVariants as reason
-use Rattle.refusals.specs.Verdict.{Verdict, Accepted, check}
+use Rattle.refusals.specs.Verdict.{Verdict, Accepted, check, verdict_of, ◌then◌}
 use Rattle.refusals.proofs.Verdicts.{first_accepted, next_accepted, check_passed}
 use Rattle.simplex.specs.declared.Group.{Group}
-use Rattle.simplex.specs.declared.TheConstants.{MOST_SYMBOLS}
+use Rattle.simplex.specs.declared.TheConstants.{MOST_SYMBOLS, MOST_PAIRS}
 use Rattle.simplex.specs.Shape.{group_of, limit_of, is_bank}
 use Rattle.std.specs.List.{sum}
-use Rattle.audit.specs.Plan.{Pair, is_plan}
-use Rattle.audit.specs.Audit.{counts_refusal, rest_of, pair_bytes, Yes, audit_of}
+use Rattle.audit.specs.declared.Pair.{Pair}
+use Rattle.audit.specs.Plan.{is_plan}
+use Rattle.audit.specs.Audit.{counts_refusal, rest_of, WithinLimit, pair_bytes, Yes, audit_of}
+use Rattle.audit.specs.Laws.{WrongCounts}
+use Rattle.audit.proofs.Reading.{serves_at}
 use Rattle.audit.proofs.Served.{at_most}
+use Rattle.std.proofs.lemmas.Bool.{false_from_ne_true}
 use Rattle.audit.proofs.Answer as Answer
-use Rattle.audit.proofs.Answer.{request, accepted, says_yes, pairs_bytes, even_bytes}
-use Rattle.plan.specs.declared.Plan.{Plan}
+use Rattle.audit.proofs.Answer.{request, accepted, verdict_by, wrong_counts, says_yes, pairs_bytes, even_bytes}
+use Rattle.audit.specs.declared.Plan.{Plan}
 use Rattle.plan.specs.Systematic.{CollisionFree, collision_free, systematic_plan}
-use Rattle.plan.specs.Finding.{table_plan, plan_of}
-use Rattle.plan.specs.Planned.{plan_refusal, stored, plan_answer, pairs_in, PlanFor}
-use Rattle.plan.specs.Laws.{WithinLimit}
+use Rattle.table.specs.Finding.{table_plan}
+use Rattle.audit.specs.Stored.{stored, pairs_in}
+use Rattle.plan.specs.Planned.{plan_of, plan_of_is, plan_refusal, plan_answer, PlanFor}
+use Rattle.plan.specs.Laws.{WrongRequest}
 use Rattle.plan.proofs.Planning.{systematic_law, is_plan_lem, passes}
-use Rattle.plan.proofs.Storing.{read_back}
+use Rattle.audit.proofs.Storing.{in_column, behind, read_back}
 
 module _ (K : ℕ) (counts : List ℕ) where
   within : length counts ≡ MOST_SYMBOLS → counts_refusal K counts ≡ Accepted → sum counts ≤ limit_of K → WithinLimit K counts
@@ -37,11 +41,25 @@ module _ (K : ℕ) (counts : List ℕ) where
   unfolding plan_refusal
   exactly n = (
     λ e.
-        let last : Verdict = check reason.TooManyReads 0 (leb (sum counts) (limit_of K)) in
+        let last : Verdict = check 12 0 (leb (sum counts) (limit_of K)) in
         within n (first_accepted (counts_refusal K counts) last e)
-        (leb-true (sum counts) (limit_of K) (check_passed reason.TooManyReads 0 (leb (sum counts) (limit_of K)) (next_accepted (counts_refusal K counts) last e))),
+        (leb-true (sum counts) (limit_of K) (check_passed 12 0 (leb (sum counts) (limit_of K)) (next_accepted (counts_refusal K counts) last e))),
     λ w. rw (accepted K counts w.request, le-leb (sum counts) (limit_of K) w.total_most),
   )
+
+  -- a refusal of the vector is the whole one's
+  wrong_vector : (v next : Verdict) → WrongCounts K counts v → WrongCounts K counts (v then next)
+  wrong_vector v next w = record { one = λ out. rw (w.one out) refl; eleven = λ range i l some. rw (w.eleven range i l some) refl }
+
+  pub wrong_request : WrongRequest K counts (verdict_of (plan_answer K counts))
+  unfolding plan_answer plan_refusal
+  wrong_request =
+      let last : Verdict = check 12 0 (leb (sum counts) (limit_of K)) in
+      let same = verdict_by (stored (plan_of K counts)) (plan_refusal K counts) in
+      record {
+        vector = subst (WrongCounts K counts) (sym same) (wrong_vector (counts_refusal K counts) last (wrong_counts K counts));
+        twelve = λ request many. same ∙ rw (accepted K counts request, false_from_ne_true (leb (sum counts) (limit_of K)) (λ e. omega (arith, leb-true (sum counts) (limit_of K) e))) refl;
+      }
 
   pub audited : WithinLimit K counts → audit_of K counts (pair_bytes (plan_of K counts)) ≡ Yes
   audited w =
@@ -57,6 +75,21 @@ module _ (K : ℕ) (counts : List ℕ) where
     valid = record {
       reads = ap (λ (p : Plan). p.len) is ∙ (is_plan_lem K counts w).one_each;
       audited = ap (λ (ps : List Pair). audit_of K counts (pair_bytes ps)) read ∙ audited w;
+      above = λ n l.
+          let pairs = plan_of K counts in
+          let n_less : n < sum counts = omega (arith, ap (λ (p : Plan). p.len) is, (is_plan_lem K counts w).one_each) in
+          let room : n < MOST_PAIRS = omega (arith, at_most K (λ b e. e) counts pairs w.request.symbols.most (passes K counts w), (is_plan_lem K counts w).one_each) in
+          omega (
+            arith,
+            (serves_at (is_bank K) counts pairs (is_plan_lem K counts w) n n_less).above,
+            ap (λ (p : Plan). get_or p.first n 0) is ∙ in_column (λ q. q.a) pairs n room,
+            ap (λ (p : Plan). get_or p.second n 0) is ∙ in_column (λ q. q.b) pairs n room,
+          );
+      behind = λ n l h.
+          let past : length (plan_of K counts) ≤ n = omega (arith, ap (λ (p : Plan). p.len) is) in (
+            ap (λ (p : Plan). get_or p.first n 0) is ∙ behind (λ q. q.a) (plan_of K counts) n past h,
+            ap (λ (p : Plan). get_or p.second n 0) is ∙ behind (λ q. q.b) (plan_of K counts) n past h,
+          );
     }
 
     systematic : CollisionFree counts → pairs_in plan ≡ systematic_plan counts
@@ -74,10 +107,13 @@ module _ (K : ℕ) (counts : List ℕ) where
     pub left_is : left ≡ limit_of K - sum counts
     left_is = let room = room_left in omega arith
 
+    pub total_is : group.limit - left ≡ sum counts
+    total_is = let room = room_left in let limit : group.limit ≡ limit_of K = ap (λ (x : Group). x.limit) g in omega arith
+
     -- a plan of either kind keeps the promise
     pub kept : (test : Bool) → test ≡ collision_free counts → (plan : Plan) → plan ≡ stored (cond test (systematic_plan counts) (table_plan K counts))
         → (Ok plan ≡ plan_answer K counts) × PlanFor K counts plan × (CollisionFree counts → pairs_in plan ≡ systematic_plan counts)
-    unfolding plan_answer plan_of
+    unfolding plan_answer
     kept test t plan as_test =
-        let is = as_test ∙ ap (λ (b : Bool). stored (cond b (systematic_plan counts) (table_plan K counts))) t in
+        let is = as_test ∙ ap (λ (b : Bool). stored (cond b (systematic_plan counts) (table_plan K counts))) t ∙ ap stored (sym (plan_of_is K counts)) in
         (rw ((exactly n).1 fits, is), valid fits plan is, systematic fits plan is)

@@ -4,7 +4,6 @@ use mathlib.Core.Bool.{true}
 use mathlib.Core.List.{List, [], ◌∷◌, map}
 use Prim.Native.Nat.{ℕ, zero, suc, ◌+◌, ◌-◌, ◌^◌, ◌≤◌, ◌<◌}
 use native.Mathlib.Nat.{le_refl}
-use native.Mathlib.Numerals.{add-one}
 use native.Mathlib.Omega.{arith, by_contra}
 use borrow.Author.Tests.{le-leb, leb-true}
 use lib.Bits.{xor_zero_r}
@@ -19,7 +18,8 @@ use Rattle.simplex.specs.Code.{Banks}
 use Rattle.std.specs.List.{sum, Contains}
 use Rattle.simplex.specs.Limit.{reads_of, start}
 use Rattle.simplex.proofs.Requests.{length_reads}
-use Rattle.audit.specs.Plan.{Pair, no_pair, opened, Serves, pair_at, IsPlan}
+use Rattle.audit.specs.declared.Pair.{Pair}
+use Rattle.audit.specs.Plan.{no_pair, opened, Serves, pair_at, IsPlan}
 use Rattle.audit.specs.Audit.{RequestOf}
 use Rattle.simplex.proofs.Contained.{contains_one}
 use Rattle.audit.proofs.Reading.{serves_in}
@@ -46,10 +46,6 @@ module _ (counts : List ℕ) where
 
   pub length_systematic : length (systematic_plan counts) ≡ sum counts
   length_systematic = length-map (reads_of counts) systematic_pair ∙ length_reads counts
-
--- where the reads of the next symbol start
-pub start_next : (counts : List ℕ) (i : ℕ) → start counts (i + 1) ≡ start counts i + get_or counts i 0
-start_next counts i = ap (start counts) (add-one i) ∙ start_suc counts i
 
 -- at most one read of each symbol
 pub start_most : (counts : List ℕ) → CollisionFree counts → (n : ℕ) → start counts n ≤ n

@@ -2,7 +2,7 @@
 -- reads.
 use Rattle.std.specs.Prelude.{Bool, true, ◌&&◌, List, [], ◌∷◌, map, ℕ, ◌^◌, ◌≤◌, nat_le, slice_index}
 use Rattle.simplex.specs.Limit.{reads_of}
-use Rattle.audit.specs.Plan.{Pair}
+use Rattle.audit.specs.declared.Pair.{Pair}
 
 -- No symbol is read more than once: in words, and as a test.
 abbrev pub CollisionFree : List ℕ → Type 0

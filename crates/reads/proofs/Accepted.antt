@@ -14,6 +14,7 @@ use Rattle.reads.specs.Reads.{Reads, reads_in, no_read, read_at, counts_of}
 use Rattle.reads.specs.Refusals.{form_refusal, read_refusal, group_refusal, reads_refusal, list_refusal}
 use Rattle.layout.specs.Name.{PacketOf}
 use Rattle.reads.specs.Parts.{Named, Few}
+use Rattle.reads.specs.Laws.{RightList}
 
 pub record Accepts (shape : Shape) (full : ℕ → Bool) (reads : Reads) (out schedule : ℕ) : Type 0 where
   pub named : Named shape reads
@@ -82,3 +83,24 @@ module _ (shape : Shape) (full : ℕ → Bool) (list : List ℕ) (out schedule :
   pub accepted : length list % 3 ≡ 0 → Accepts shape full (reads_in list) out schedule → list_refusal shape full list out schedule ≡ Accepted
   unfolding list_refusal
   accepted whole a = rw (eq-eqb _ _ whole, reads_accepted shape full (reads_in list) out schedule a)
+
+  -- the same in words
+  pub list_right : list_refusal shape full list out schedule ≡ Accepted → RightList shape full list out schedule
+  list_right e =
+      let t = accepts e in
+      record {
+        whole = t.0;
+        reads = λ n l. record { there = t.1.named n no_read l; full_row = t.1.rows_full n l };
+        few = t.1.few;
+        output = t.1.out_size;
+        lines = t.1.schedule_size;
+      }
+
+  pub right_list : RightList shape full list out schedule → list_refusal shape full list out schedule ≡ Accepted
+  right_list r = accepted r.whole (record {
+    named = All-from_get_or (PacketOf shape) (reads_in list) no_read (λ n l. (r.reads n l).there);
+    rows_full = λ n l. (r.reads n l).full_row;
+    few = r.few;
+    out_size = r.output;
+    schedule_size = r.lines;
+  })

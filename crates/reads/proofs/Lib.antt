@@ -5,3 +5,4 @@ pub mod Cutting
 pub mod Grids
 pub mod Accepted
 pub mod Refused
+pub mod Wrong

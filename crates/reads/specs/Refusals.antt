@@ -1,6 +1,5 @@
 -- When a list of reads and the buffers for it are refused, over a store of some shape with some rows full.
 use Rattle.std.specs.Prelude.{Bool, ◌&&◌, List, ℕ, ◌*◌, ◌%◌, ◌==◌, nat_le, nat_lt, length, sum}
-use Rattle.refusals.specs.declared.Reason.TheVariants as reason
 use Rattle.refusals.specs.Verdict.{Verdict, check, ◌then◌, first_refusal}
 use Rattle.simplex.specs.Shape.{limit_of}
 use Rattle.layout.specs.declared.Shape.{Shape}
@@ -9,18 +8,18 @@ use Rattle.reads.specs.Reads.{Reads, reads_in, read_at, counts_of}
 
 -- 13, the length of a list of bytes isn't a multiple of 3.
 abbrev pub length_refusal : List ℕ → Verdict
-length_refusal list = check reason.ListLength 0 (length list % 3 == 0)
+length_refusal list = check 13 0 (length list % 3 == 0)
 
 -- The name of a packet, and a place for its refusals. 7, the row is G or more. 14, the group is m or more. 15, the symbol is K or more.
 abbrev pub name_refusal : Shape → (place : ℕ) → PacketName → Verdict
 name_refusal shape place name =
-    check reason.NoSuchRow place (nat_lt name.row shape.g)
-    then check reason.NoSuchGroup place (nat_lt name.group shape.m)
-    then check reason.NoSuchSymbol place (nat_lt name.symbol shape.k)
+    check 7 place (nat_lt name.row shape.g)
+    then check 14 place (nat_lt name.group shape.m)
+    then check 15 place (nat_lt name.symbol shape.k)
 
 -- The same; then 9, the row is empty.
 abbrev pub packet_refusal : Shape → (full : ℕ → Bool) → (place : ℕ) → PacketName → Verdict
-packet_refusal shape full place name = name_refusal shape place name then check reason.EmptyRow place (full name.row)
+packet_refusal shape full place name = name_refusal shape place name then check 9 place (full name.row)
 
 -- The form of read n, and read n by itself: its place is its index.
 abbrev pub form_refusal : Shape → Reads → (n : ℕ) → Verdict
@@ -31,12 +30,12 @@ read_refusal shape full reads n = packet_refusal shape full n (read_at reads n)
 
 -- 12, a group has too many reads.
 abbrev pub group_refusal : Shape → Reads → (group : ℕ) → Verdict
-group_refusal shape reads group = check reason.TooManyReads group (nat_le (sum (counts_of reads group)) (limit_of shape.k))
+group_refusal shape reads group = check 12 group (nat_le (sum (counts_of reads group)) (limit_of shape.k))
 
 -- 16, the output isn't P bytes a read, or the schedule (customers say: the sheet) isn't two.
 abbrev pub buffer_refusal : Shape → Reads → (out schedule : ℕ) → Verdict
 buffer_refusal shape reads out schedule =
-    check reason.BufferLengths 0 ((out == length reads * shape.p) && (schedule == length reads * 2))
+    check 16 0 ((out == length reads * shape.p) && (schedule == length reads * 2))
 
 -- Read by read; then 12, with the lowest group that has too many reads; then 16.
 abbrev pub reads_refusal : Shape → (full : ℕ → Bool) → Reads → (out schedule : ℕ) → Verdict

@@ -1,2 +1,3 @@
 -- The laws that the proofs of the crates above cite.
 pub mod Verdicts
+pub mod Numbers

@@ -7,11 +7,11 @@ use native.Mathlib.Nat.{eq-or-lt_of_le, le_of_suc-le-suc}
 use native.Mathlib.Omega.{arith}
 use borrow.Author.Tests.{le-leb, leb-true}
 use lib.Dec.{leb}
+use Rattle.std.proofs.lemmas.Bool.{false_from_ne_true}
 use Rattle.std.specs.Prelude.{Result, Ok, Err}
 use Rattle.std.specs.Result.{is_ok}
 use Rattle.refusals.specs.declared.Refusal.{Refusal}
-use Rattle.refusals.specs.declared.Reason.{Reason}
-use Rattle.refusals.specs.Verdict.{Verdict, Accepted, refused, between, check, answer_by, ◌then◌, first_refusal}
+use Rattle.refusals.specs.Verdict.{Verdict, Accepted, reason_of, refusal_of, refused, between, check, answer_by, ◌then◌, first_refusal}
 
 pub not_accepted : {A : Type 0} (r : Refusal) → ◌≡◌ {A = Verdict} (Err r) Accepted → A
 not_accepted r e = cc
@@ -24,9 +24,9 @@ pub next_accepted : (v next : Verdict) → (v then next) ≡ Accepted → next �
 next_accepted Accepted next e = e
 next_accepted (Err r) next e = not_accepted r e
 
-pub check_passed : (reason : Reason) (place : ℕ) (test : Bool) → check reason place test ≡ Accepted → test ≡ true
-check_passed reason place true e = refl
-check_passed reason place false e = not_accepted (record { reason = reason; place = place }) e
+pub check_passed : (number place : ℕ) (test : Bool) → check number place test ≡ Accepted → test ≡ true
+check_passed number place true e = refl
+check_passed number place false e = not_accepted (refusal_of number place) e
 
 -- what every check of an accepted verdict tells
 pub ruleset checks = (first_accepted, next_accepted, check_passed)
@@ -44,11 +44,11 @@ pub then_refused : (v next : Verdict) (r : Refusal) → (v then next) ≡ Err r 
 then_refused Accepted next r e = inr (refl, e)
 then_refused (Err own) next r e = inl e
 
--- a check that is not passed refuses for its own reason, at its own place
-pub check_refused : (reason : Reason) (place : ℕ) (test : Bool) (r : Refusal) → check reason place test ≡ Err r
-    → (reason ≡ r.reason) × (place ≡ r.place) × (test ≡ false)
-check_refused reason place true r e = not_accepted r (sym e)
-check_refused reason place false r e = (cc, cc, refl)
+-- a check that is not passed refuses by its own number, at its own place
+pub check_refused : (number place : ℕ) (test : Bool) (r : Refusal) → check number place test ≡ Err r
+    → (reason_of number ≡ r.reason) × (place ≡ r.place) × (test ≡ false)
+check_refused number place true r e = not_accepted r (sym e)
+check_refused number place false r e = (cc, cc, refl)
 
 -- ---- the first refusal of many
 
@@ -84,25 +84,25 @@ module _ (f : ℕ → Verdict) where
       (λ h. (n, omega arith, h.1, all_accepted n h.0))
       (then_refused (first_refusal f n) (f n) r e)
 
--- ---- a reason that is not among those of its checks
+-- ---- a number that is not among those of its checks
 
-abbrev pub Never : Reason → Verdict → Type 0
-Never reason v = (place : ℕ) → v ≡ refused reason place → ⊥
+abbrev pub Never : (number : ℕ) → Verdict → Type 0
+Never number v = (place : ℕ) → v ≡ refused number place → ⊥
 
-pub never_check : (reason own : Reason) (place : ℕ) (test : Bool) → own ≢ reason → Never reason (check own place test)
-never_check reason own place test ne p e = ne (check_refused own place test (record { reason = reason; place = p }) e).0
+pub never_check : (number own place : ℕ) (test : Bool) → reason_of own ≢ reason_of number → Never number (check own place test)
+never_check number own place test ne p e = ne (check_refused own place test (refusal_of number p) e).0
 
-pub never_then : (reason : Reason) (v next : Verdict) → Never reason v → Never reason next → Never reason (v then next)
-never_then reason v next a b place e = ⊎_elim (a place) (λ r. b place r.1) (then_refused v next (record { reason = reason; place = place }) e)
+pub never_then : (number : ℕ) (v next : Verdict) → Never number v → Never number next → Never number (v then next)
+never_then number v next a b place e = ⊎_elim (a place) (λ r. b place r.1) (then_refused v next (refusal_of number place) e)
 
-pub never_first : (reason : Reason) (f : ℕ → Verdict) (n : ℕ) → ((i : ℕ) → Never reason (f i)) → Never reason (first_refusal f n)
-never_first reason f n h place e = let t = first_refused f n (record { reason = reason; place = place }) e in h t.0 place t.2
+pub never_first : (number : ℕ) (f : ℕ → Verdict) (n : ℕ) → ((i : ℕ) → Never number (f i)) → Never number (first_refusal f n)
+never_first number f n h place e = let t = first_refused f n (refusal_of number place) e in h t.0 place t.2
 
 -- so the refusal is that of what comes after it
-pub skips : (reason : Reason) (v next : Verdict) (place : ℕ) → Never reason v → (v then next) ≡ refused reason place
-    → (v ≡ Accepted) × (next ≡ refused reason place)
-skips reason v next place never e =
-    ⊎_elim (λ r. absurd (never place r)) (λ r. r) (then_refused v next (record { reason = reason; place = place }) e)
+pub skips : (number : ℕ) (v next : Verdict) (place : ℕ) → Never number v → (v then next) ≡ refused number place
+    → (v ≡ Accepted) × (next ≡ refused number place)
+skips number v next place never e =
+    ⊎_elim (λ r. absurd (never place r)) (λ r. r) (then_refused v next (refusal_of number place) e)
 
 pub first_same : (f g : ℕ → Verdict) (n : ℕ) → ((i : ℕ) → i < n → f i ≡ g i) → first_refusal f n ≡ first_refusal g n
 first_same f g zero h = refl
@@ -126,6 +126,9 @@ both false u = (λ e. absurd (false≢true e), λ h. h.0)
 -- a range, as a test and in words
 pub between_words : (low high n : ℕ) → between low high n ≡ true → (low ≤ n) × (n ≤ high)
 between_words low high n e = let t = (both (leb low n) (leb n high)).0 e in (leb-true low n t.0, leb-true n high t.1)
+
+pub not_between : (low high n : ℕ) → ((low ≤ n) × (n ≤ high) → ⊥) → between low high n ≡ false
+not_between low high n w = false_from_ne_true _ (λ e. w (between_words low high n e))
 
 pub words_between : (low high n : ℕ) → (low ≤ n) × (n ≤ high) → between low high n ≡ true
 words_between low high n w = rw (le-leb low n w.0, le-leb n high w.1)

@@ -1,2 +1,4 @@
--- The definitions of the crate: verdicts.
+-- The definitions of the crate: verdicts, how they are printed, and laws.
 pub mod Verdict
+pub mod Text
+pub mod Laws

@@ -1,8 +1,10 @@
 -- How the refusal of an operation is said: a list of checks, of which the first that is not passed gives its reason and place.
-use Rattle.std.specs.Prelude.{Bool, true, false, ◌&&◌, ℕ, zero, suc, nat_le, Result, Ok, Err}
+use Rattle.std.specs.Prelude.{Bool, true, false, ◌&&◌, List, [], ◌∷◌, ℕ, zero, suc, ◌-◌, nat_le, slice_index_or, Result, Ok, Err}
 use Rattle.refusals.specs.declared.Refusal.{Refusal}
 use Rattle.refusals.specs.declared.Reason.{Reason}
 use Rattle.refusals.specs.declared.Reason.TheVariants as reason
+use Rattle.refusals.specs.declared.Answer.{Answer}
+use Rattle.refusals.specs.declared.Answer.TheVariants.{Ready, FullRows, Served}
 
 -- Accepted, or refused.
 abbrev pub Verdict : Type 0
@@ -10,10 +12,6 @@ Verdict = Result (Unit {0}) Refusal
 
 pattern abbrev pub Accepted : Verdict
 Accepted = Ok tt
-
--- Refused for this reason, at this place.
-abbrev pub refused : {A : Type 0} (reason : Reason) (place : ℕ) → Result A Refusal
-refused r place = Err (record { reason = r; place = place })
 
 -- The number of the refusals for a reason.
 abbrev pub number_of : Reason → ℕ
@@ -38,14 +36,57 @@ number_of reason.UnknownFrame = 18
 number_of reason.NoMemory = 19
 number_of reason.StoreTooLarge = 20
 
+-- The reasons in the order of their numbers, from 1; and the reason for a number. (0 is given the first, a number above 20 the last: no
+-- refusal has them.)
+abbrev pub reasons : List Reason
+reasons =
+    reason.SymbolsOutOfRange
+    ∷ reason.GroupsOutOfRange
+    ∷ reason.PacketSizeOutOfRange
+    ∷ reason.RowsOutOfRange
+    ∷ reason.BrokenState
+    ∷ reason.StoreLength
+    ∷ reason.NoSuchRow
+    ∷ reason.FullRow
+    ∷ reason.EmptyRow
+    ∷ reason.PacketsLength
+    ∷ reason.ForeignCount
+    ∷ reason.TooManyReads
+    ∷ reason.ListLength
+    ∷ reason.NoSuchGroup
+    ∷ reason.NoSuchSymbol
+    ∷ reason.BufferLengths
+    ∷ reason.NoHexadecimal
+    ∷ reason.UnknownFrame
+    ∷ reason.NoMemory
+    ∷ reason.StoreTooLarge
+    ∷ []
+
+abbrev pub reason_of : (number : ℕ) → Reason
+reason_of number = slice_index_or reasons (number - 1) reason.StoreTooLarge
+
+-- The refusal of this number, at this place; and an answer that is this refusal.
+abbrev pub refusal_of : (number place : ℕ) → Refusal
+refusal_of number place = record { reason = reason_of number; place = place }
+
+abbrev pub refused : {A : Type 0} (number place : ℕ) → Result A Refusal
+refused number place = Err (refusal_of number place)
+
+-- The values of each answer: of a set-up, the banks of all groups and the most reads of one; the number of full rows; of a read cycle
+-- none.
+abbrev pub values_of : Answer → List ℕ
+values_of (Ready banks most_reads) = banks ∷ most_reads ∷ []
+values_of (FullRows rows) = rows ∷ []
+values_of Served = []
+
 -- Whether n is from low to high.
 abbrev pub between : (low high n : ℕ) → Bool
 between low high n = nat_le low n && nat_le n high
 
--- The refusal for this reason, at this place, unless the test is passed.
-abbrev pub check : (reason : Reason) (place : ℕ) → Bool → Verdict
-check r place true = Accepted
-check r place false = refused r place
+-- The refusal of this number, at this place, unless the test is passed.
+abbrev pub check : (number place : ℕ) → Bool → Verdict
+check number place true = Accepted
+check number place false = refused number place
 
 -- The first where the verdict is a refusal, else the second.
 abbrev pub if_refused : {A : Type 0} → (before after : A) → Verdict → A

@@ -1,8 +1,10 @@
 // How an operation answers: what it says where it is accepted; where not, the reasons, a refusal with its place, and a check that gives it.
 #![tactic(auto)]
 
-ghost use Rattle.std.specs.Prelude.{◌≡◌};
+ghost use Rattle.std.specs.Prelude.{◌≡◌, Some};
 ghost use Rattle.refusals.specs.Verdict.{between, number_of, refused, check};
+ghost use Rattle.refusals.specs.Text.{refusal_text, answer_text};
+ghost use Rattle.refusals.specs.Laws.{TheNumbers};
 
 use std::error::Error;
 use std::fmt;
@@ -39,10 +41,11 @@ pub struct Refusal {
     pub place: usize,
 }
 
-// What an accepted operation answers: the number of full rows, if it changes the state or the store; or that a read cycle is served.
-// No `Option<usize>`: "served" is an answer with a name of its own, and not the lack of one.
+// What an accepted operation answers. A set-up: the banks of all groups, and the most reads of one in a cycle. An operation that changes
+// the state or the store: the number of full rows. A read cycle: that it is served.
 #[derive(Clone, Copy, Debug, PartialEq, Eq)]
 pub enum Answer {
+    Ready { banks: usize, most_reads: usize },
     FullRows(usize),
     Served,
 }
@@ -61,6 +64,8 @@ impl Reason {
 }
 
 impl fmt::Display for Refusal {
+    ghost output = { λ refusal. Some (refusal_text refusal) };
+
     fn fmt<W: fmt::Write>(&self, f: &mut fmt::Formatter<W>) -> fmt::Result {
         write!(f, "refused {}, place {}", self.reason.number(), self.place)
     }
@@ -69,24 +74,34 @@ impl fmt::Display for Refusal {
 impl Error for Refusal {}
 
 impl fmt::Display for Answer {
+    ghost output = { λ answer. Some (answer_text answer) };
+
     fn fmt<W: fmt::Write>(&self, f: &mut fmt::Formatter<W>) -> fmt::Result {
         match self {
+            Answer::Ready { banks, most_reads } => {
+                write!(f, "banks {banks}, most reads of a group {most_reads}")
+            }
             Answer::FullRows(rows) => write!(f, "full rows {rows}"),
             Answer::Served => write!(f, "served"),
         }
     }
 }
 
+// Carries the laws of refusals. It does nothing.
+pub fn the_refusals()
+    ensures { TheNumbers }
+{}
+
 // Refused for this reason, at this place.
 pub fn refused<T>(reason: Reason, place: usize) -> Result<T, Refusal>
-    ensures { result ≡ refused reason place }
+    ensures { result ≡ refused (number_of reason) place }
 {
     Err(Refusal { reason, place })
 }
 
 // Accepted if a test is passed, else refused for this reason, at this place.
 pub fn check(passed: bool, reason: Reason, place: usize) -> Verdict
-    ensures { result ≡ check reason place passed }
+    ensures { result ≡ check (number_of reason) place passed }
 {
     if passed {
         Ok(())

@@ -1,13 +1,14 @@
 -- The laws of a row in a store, for any shape, store and generation.
-use Rattle.std.specs.Prelude.{◌≡◌, true, List, [], ℕ, ◌^◌, ◌<◌, length, slice_index, slice_index_or}
+use Rattle.std.specs.Prelude.{◌≡◌, true, List, [], ℕ, suc, ◌+◌, ◌*◌, ◌^◌, ◌≤◌, ◌<◌, length, slice_index, slice_index_or}
 use Rattle.cells.specs.Cell.{Outside}
 use Rattle.cells.specs.Xor.{xor_bytes}
+use Rattle.simplex.specs.Shape.{degree_of}
 use Rattle.simplex.specs.Code.{bank_cell}
-use Rattle.simplex.specs.Symbols.{has_symbol}
+use Rattle.simplex.specs.Symbols.{has_symbol, highest_of, without_highest}
 use Rattle.layout.specs.declared.Shape.{Shape}
 use Rattle.layout.specs.Shape.{store_size, generation_size, CellOf, offset, cell_at}
 use Rattle.layout.specs.Name.{PacketOf}
-use Rattle.rows.specs.Rows.{packets_in, packet_in, group_written, row_written, packet_updated, edited}
+use Rattle.rows.specs.Rows.{packets_in, packet_place, packet_in, group_written, row_written, packet_updated, edited}
 
 -- This byte of the store lies in no cell of the row.
 abbrev pub OutsideRow : Shape → (row byte : ℕ) → Type 0
@@ -23,12 +24,19 @@ abbrev pub GroupHeld : Shape → (row group : ℕ) → (generation store : List 
 GroupHeld shape row group generation store =
     (b : ℕ) → CellOf shape group b row → cell_at shape store group b row ≡ bank_cell shape.p (packets_in shape generation group) b
 
--- Of a store and the store after a generation was written to a row: each cell of the row, in all groups, is what the code puts there for
--- the generation's packets, and every other byte is as it was.
+-- Of a store and the store after a generation was written to a row, whatever the store held.
+-- cells: each cell of the row, in all groups, is what the code puts there for the generation's packets.
+-- copies: of a bank of degree one it is the bank's packet. steps: of a bank of degree two or more it is the XOR of two sources, the cell of
+-- the bank without its highest symbol, in the same row, and that symbol's packet.
+-- others: every other byte is as it was.
 pub record Written (shape : Shape) (row : ℕ) (generation store after : List ℕ) : Type 0 where
   pub size : length after ≡ length store
   pub cells : (group b : ℕ) → CellOf shape group b row
       → cell_at shape after group b row ≡ bank_cell shape.p (packets_in shape generation group) b
+  pub copies : (group b : ℕ) → CellOf shape group b row → degree_of b ≡ 1
+      → cell_at shape after group b row ≡ packet_in shape generation group (highest_of b)
+  pub steps : (group b : ℕ) → CellOf shape group b row → 2 ≤ degree_of b → cell_at shape after group b row
+      ≡ xor_bytes (cell_at shape after group (without_highest b) row) (packet_in shape generation group (highest_of b))
   pub others : (byte : ℕ) → OutsideRow shape row byte → slice_index after byte ≡ slice_index store byte
 
 -- Of a store and the store after an update of the packet of a symbol of a group in a row, whatever the store held: into the cell of each
@@ -47,6 +55,20 @@ pub record Edited (shape : Shape) (group symbol : ℕ) (packet before after : Li
   pub others : (y j : ℕ) → y < shape.m → j < shape.k → ((y ≡ group) × (j ≡ symbol) → ⊥)
       → packet_in shape after y j ≡ packet_in shape before y j
 
+-- The order of a generation's packets. first: it begins with that of group 0, symbol 0. next_symbol: the packet of a group's next symbol
+-- comes P bytes further on. next_group: that of the next group K * P. last: it ends with that of the last group's last symbol.
+-- bytes: so these are the bytes of a group's packet.
+pub record TheGeneration (shape : Shape) : Type 0 where
+  pub first : packet_place shape 0 0 ≡ 0
+  pub next_symbol : (group symbol : ℕ) → packet_place shape group (suc symbol) ≡ packet_place shape group symbol + shape.p
+  pub next_group : (group symbol : ℕ) → packet_place shape (suc group) symbol ≡ packet_place shape group symbol + shape.k * shape.p
+  pub last : (group symbol : ℕ) → shape.m ≡ suc group → shape.k ≡ suc symbol
+      → packet_place shape group symbol + shape.p ≡ generation_size shape
+  pub bytes : (generation : List ℕ) (group symbol byte : ℕ) → symbol < shape.k → byte < shape.p
+      → slice_index (slice_index_or (packets_in shape generation group) symbol []) byte
+      ≡ slice_index generation (packet_place shape group symbol + byte)
+
+-- order: in which order a generation's packets stand.
 -- packets: a packet of a group stands where a generation with the packets of group 0 in symbol order, then group 1, and so on, has it.
 -- written: a generation written to a row sets the cells of that row alone.
 -- updated: an update changes the cells of its group's banks that hold the symbol, in that row, alone. editing: an edited generation has the
@@ -54,6 +76,7 @@ pub record Edited (shape : Shape) (group symbol : ℕ) (packet before after : Li
 -- fresh: where the group's cells in that row are what the code puts there for a generation, the store after the update is the store after
 -- the group was written afresh with its packets of the edited generation.
 pub record TheRows : Type 0 where
+  pub order : (shape : Shape) → TheGeneration shape
   pub packets : (shape : Shape) (generation : List ℕ) (group symbol : ℕ) → symbol < shape.k
       → slice_index_or (packets_in shape generation group) symbol [] ≡ packet_in shape generation group symbol
   pub written : (shape : Shape) (row : ℕ) (generation store : List ℕ) → row < shape.g → length store ≡ store_size shape

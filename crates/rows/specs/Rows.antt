@@ -1,5 +1,5 @@
 -- A row of a store: the packets of a generation, the cells that they set, and the cells that an update of one packet changes.
-use Rattle.std.specs.Prelude.{List, ℕ, zero, suc, ◌+◌, ◌*◌, ◌<◌}
+use Rattle.std.specs.Prelude.{List, ℕ, zero, suc, ◌+◌, ◌*◌}
 use Rattle.cells.specs.Cell.{cell, put}
 use Rattle.simplex.specs.Code.{Packet}
 use Rattle.simplex.specs.Filling.{packets_of, filled}
@@ -11,11 +11,15 @@ use Rattle.layout.specs.Shape.{banks, offset}
 abbrev pub packets_in : Shape → List ℕ → ℕ → List Packet
 packets_in shape generation group = packets_of shape.p shape.k (cell generation (group * (shape.k * shape.p)) (shape.k * shape.p))
 
--- The packet of a symbol of a group.
-abbrev pub packet_in : Shape → List ℕ → (group symbol : ℕ) → Packet
-packet_in shape generation group symbol = cell generation ((group * shape.k + symbol) * shape.p) shape.p
+-- Where the packet of a symbol of a group stands in a generation, and that packet.
+abbrev pub packet_place : Shape → (group symbol : ℕ) → ℕ
+packet_place shape group symbol = (group * shape.k + symbol) * shape.p
 
--- The store with the cells of all banks of a group in a row filled, for a group of these packets.
+abbrev pub packet_in : Shape → List ℕ → (group symbol : ℕ) → Packet
+packet_in shape generation group symbol = cell generation (packet_place shape group symbol) shape.p
+
+-- The store with the cells of all banks of a group in a row filled, for a group of these packets: bank by bank from 1 up, by copies and
+-- by steps of running XOR.
 abbrev pub group_written : Shape → (group row : ℕ) → List Packet → (store : List ℕ) → List ℕ
 group_written shape group row packets store = filled shape.p packets (λ b. offset shape group b row) (banks shape) store
 
@@ -37,4 +41,4 @@ packet_updated shape row group symbol packet store =
 
 -- A generation with the packet of a symbol of a group edited.
 abbrev pub edited : Shape → (generation : List ℕ) → (group symbol : ℕ) → Packet → List ℕ
-edited shape generation group symbol packet = put generation ((group * shape.k + symbol) * shape.p) packet
+edited shape generation group symbol packet = put generation (packet_place shape group symbol) packet

@@ -1,12 +1,13 @@
 -- Running XOR gives the code's banks: a bank is the bank without its highest symbol XOR that symbol's packet.
-use mathlib.Core.Path.{◌≡◌, refl, sym, ap, ap₂, ◌∙◌}
+use mathlib.Core.Path.{◌≡◌, refl, sym, ap, ◌∙◌}
 use mathlib.Core.Logic.{◌≢◌, ◌⊎◌, inl, inr, ⊎_elim}
 use mathlib.Core.Bool.{Bool, true, false}
 use mathlib.Core.List.{List, []}
 use Prim.Native.Nat.{ℕ, zero, suc, ◌+◌, ◌-◌, ◌*◌, ◌^◌, ◌≤◌, ◌<◌}
-use native.Mathlib.Nat.{le_refl, one-mul, eq-or-lt_of_le, le_of_suc-le-suc, lt_of_not-le, mul-le-mul_right, pow-suc}
+use native.Mathlib.Decide.{ℕ_discrete}
+use native.Mathlib.Nat.{le_refl, one-mul, eq-or-lt_of_le, le_of_suc-le-suc, lt_of_not-le, pow-suc}
 use native.Mathlib.Omega.{arith}
-use borrow.Author.Tests.{eq-eqb, eqb-true, eqb-false}
+use borrow.Author.Tests.{eq-eqb}
 use lib.Bits.{bit_xor, xor_shifted, xor_comm}
 use lib.Count.{ones_cat, ones-ones}
 use lib.Dec.{eqb}
@@ -14,20 +15,14 @@ use lib.ListN.{length, get_or}
 use lib.Pow.{pow_pos, pow_mono}
 use Rattle.std.proofs.lemmas.Nat.{leading_top, ones_le_self, zero_from_ones}
 use Rattle.std.proofs.lemmas.Nat.Bits.{bit_at_above}
-use Rattle.std.specs.Int.{is_power_of_two}
 use Rattle.bits.specs.Bits.{bit}
 use Rattle.bits.proofs.Bits.{below_power, bit_top, bit_other}
 use Rattle.bits.proofs.Sets.{lt_none}
-use Rattle.cells.specs.Cell.{cell, put}
 use Rattle.cells.specs.Xor.{xor_bytes}
 use Rattle.simplex.specs.Shape.{banks_of, degree_of}
 use Rattle.simplex.specs.Symbols.{has_symbol, last_of, highest_of, without_highest}
 use Rattle.simplex.specs.Code.{Packet, Sized, bank_cell}
-use Rattle.simplex.specs.Banks.{Room}
-use Rattle.simplex.specs.Filling.{packets_of, filled, running_step}
 use Rattle.simplex.proofs.Banks.{linear, cell_one}
-use Rattle.simplex.proofs.Setting.{fewer}
-use Rattle.simplex.proofs.Filling.{length_packets, packet_at, packets_sized, filled_more, filled_holds}
 
 -- ---- the highest symbol
 
@@ -92,13 +87,13 @@ module _ (b : ℕ) (some : 1 ≤ b) where
   )
 
   -- what the code puts into it
-  bank_top : (P : ℕ) (packets : List Packet) → highest_of b < length packets → Sized P packets
+  pub bank_top : (P : ℕ) (packets : List Packet) → highest_of b < length packets → Sized P packets
       → xor_bytes (bank_cell P packets (without_highest b)) (get_or packets (highest_of b) []) ≡ bank_cell P packets b
   bank_top P packets l s =
       ap (xor_bytes (bank_cell P packets (without_highest b))) (sym (cell_one P packets (highest_of b) l s))
       ∙ linear P packets (without_highest b) (2 ^ highest_of b) s ∙ ap (bank_cell P packets) top
 
--- a bank of degree two or more has a rest, and the others are systematic: their numbers are powers of two
+-- a bank of degree two or more has a rest, and one of degree one is systematic: its number is a power of two
 pub some_rest : (b : ℕ) → 2 ≤ degree_of b → (1 ≤ b) × (1 ≤ without_highest b)
 some_rest b two = go (without_highest b) refl
   where
@@ -113,54 +108,42 @@ pub lower : (b : ℕ) → 2 ≤ degree_of b → (1 ≤ without_highest b) × (wi
 lower b two =
     let some = some_rest b two in (some.1, omega (arith, rest_more b some.0, pow_pos (highest_of b)), degree_more b some.0)
 
-pub degree_two : (b : ℕ) → 1 ≤ b → false ≡ is_power_of_two b → 2 ≤ degree_of b
-degree_two b some other = omega (arith, degree_more b some, eqb-false (degree_of b) 1 (sym other))
+pub degree_two : (b : ℕ) → 1 ≤ b → degree_of b ≢ 1 → 2 ≤ degree_of b
+degree_two b some other = omega (arith, degree_more b some, other)
 
-pub systematic : (b : ℕ) → 1 ≤ b → true ≡ is_power_of_two b → 2 ^ highest_of b ≡ b
+pub systematic : (b : ℕ) → 1 ≤ b → degree_of b ≡ 1 → 2 ^ highest_of b ≡ b
 systematic b some one =
-    let none : without_highest b ≡ 0 =
-    zero_from_ones (without_highest b) (omega (arith, degree_more b some, eqb-true (degree_of b) 1 (sym one))) in
+    let none : without_highest b ≡ 0 = zero_from_ones (without_highest b) (omega (arith, degree_more b some, one)) in
     omega (arith, rest_more b some)
 
-pub kinds : (b : ℕ) → 1 ≤ b → (2 ^ highest_of b ≡ b) ⊎ (2 ≤ degree_of b)
-kinds b some = go (is_power_of_two b) refl
+pub kind : (b : ℕ) → 1 ≤ b → (degree_of b ≡ 1) ⊎ (2 ≤ degree_of b)
+kind b some = go (ℕ_discrete (degree_of b) 1)
   where
-    go : (t : Bool) → t ≡ is_power_of_two b → (2 ^ highest_of b ≡ b) ⊎ (2 ≤ degree_of b)
-    go true e = inl (systematic b some e)
-    go false e = inr (degree_two b some e)
+    go : Dec (degree_of b ≡ 1) → (degree_of b ≡ 1) ⊎ (2 ≤ degree_of b)
+    go (yes e) = inl e
+    go (no n) = inr (degree_two b some n)
 
--- ---- the filling, bank by bank, from K packets of P bytes
+pub kinds : (b : ℕ) → 1 ≤ b → (2 ^ highest_of b ≡ b) ⊎ (2 ≤ degree_of b)
+kinds b some = ⊎_elim (λ one. inl (systematic b some one)) inr (kind b some)
 
-module _ (K P : ℕ) (packets : List ℕ) (fits : K * P ≤ length packets) where
-  abbrev group : List Packet
-  group = packets_of P K packets
+-- a group has the systematic bank of each of its symbols, and those up to the next one's
+pub two_below : (K i : ℕ) → i < K → 2 ^ i + 2 ^ i ≤ 2 ^ K
+two_below K i l = let up : 2 ^ suc i ≤ 2 ^ K = pow_mono l in omega (arith, pow-suc 2 i)
 
-  sized : Sized P group
-  sized = packets_sized P K packets fits
+pub systematic_bank : (K i : ℕ) → i < K → 2 ^ i ≤ banks_of K
+systematic_bank K i l = omega (arith, two_below K i l, pow_pos i)
 
-  in_group : (i : ℕ) → i < K → i < length group
-  in_group i l = rw (length_packets P K packets) l
+-- a number with one symbol, and one with a symbol and others below it
+pub highest_one : (i : ℕ) → (highest_of (2 ^ i) ≡ i) × (degree_of (2 ^ i) ≡ 1)
+highest_one i =
+    let is : highest_of (2 ^ i) ≡ i = sym (highest_is (2 ^ i) i (le_refl (2 ^ i)) (omega (arith, pow_pos i))) in
+    let none : without_highest (2 ^ i) ≡ 0 = rw is (omega arith) in
+    (is, omega (arith, degree_more (2 ^ i) (pow_pos i), ap degree_of none, ones_le_self 0))
 
-  packet : (i : ℕ) → i < K → cell packets (i * P) P ≡ get_or group i []
-  packet i l = sym (packet_at P K packets i l)
-
-  pub packet_there : (b : ℕ) → 1 ≤ b → b ≤ banks_of K → suc (highest_of b) * P ≤ length packets
-  packet_there b some most =
-      let up : suc (highest_of b) * P ≤ K * P = mul-le-mul_right P (symbol_below b some K most) in omega (arith, up, fits)
-
-  pub copies : (i : ℕ) (place : ℕ → ℕ) (s : List ℕ) → i < K
-      → put (filled P group place (2 ^ i - 1) s) (place (2 ^ i)) (cell packets (i * P) P) ≡ filled P group place (2 ^ i) s
-  copies i place s l =
-      ap (put (filled P group place (2 ^ i - 1) s) (place (2 ^ i))) (packet i l ∙ sym (cell_one P group i (in_group i l) sized))
-      ∙ filled_more P group place (2 ^ i) s (pow_pos i)
-
-  pub steps : (b : ℕ) (place : ℕ → ℕ) (s : List ℕ) → 2 ≤ degree_of b → b ≤ banks_of K → Room P place b (length s)
-      → running_step P packets place b (filled P group place (b - 1) s) ≡ filled P group place b s
-  steps b place s two most room =
-      let some = (some_rest b two).0 in
-      let l = symbol_below b some K most in
-      let before : without_highest b ≤ b - 1 = omega (arith, (lower b two).1) in
-      let source = (filled_holds P group place sized (b - 1) s (fewer (b - 1) (omega arith) room)).banks (without_highest b) (lower b two).0 before refl in
-      ap (put (filled P group place (b - 1) s) (place b))
-      (ap₂ xor_bytes source (packet (highest_of b) l) ∙ bank_top b some P group (in_group (highest_of b) l) sized)
-      ∙ filled_more P group place b s some
+pub highest_more : (i r : ℕ) → 1 ≤ r → r < 2 ^ i
+    → (highest_of (2 ^ i + r) ≡ i) × (without_highest (2 ^ i + r) ≡ r) × (2 ≤ degree_of (2 ^ i + r))
+highest_more i r some below =
+    let is : highest_of (2 ^ i + r) ≡ i = sym (highest_is (2 ^ i + r) i (omega arith) (omega arith)) in
+    let rest : without_highest (2 ^ i + r) ≡ r = rw is (omega arith) in
+    let there : 1 ≤ 2 ^ i + r = omega arith in
+    (is, rest, degree_two (2 ^ i + r) there (λ one. absurd (omega (arith, systematic (2 ^ i + r) there one, ap (λ (n : ℕ). 2 ^ n) is))))

@@ -38,7 +38,7 @@ spaced_room P at step n size q fits = record { within = within; rising = rising 
         let e : suc (a - 1) * step ≡ (a - 1) * step + step = suc-mul (a - 1) step in
         omega arith
 
-module _ (test : ℕ → Bool) (what : ℕ → Packet) (place : ℕ → ℕ) where
+module _ (test : ℕ → Bool) (what : List ℕ → ℕ → Packet) (place : ℕ → ℕ) where
   -- set up to bank b - 1, and then bank b
   pub each_more : (b : ℕ) (s : List ℕ) → 1 ≤ b → bank_set test what place b (each_bank test what place (b - 1) s) ≡ each_bank test what place b s
   unfolding each_bank
@@ -56,42 +56,45 @@ module _ (test : ℕ → Bool) (what : ℕ → Packet) (place : ℕ → ℕ) whe
   length_each zero s = refl
   length_each (suc n) s = go (test (suc n)) (each_bank test what place n s) ∙ length_each n s
     where
-      go : (t : Bool) (s : List ℕ) → length (cond t (put s (place (suc n)) (what (suc n))) s) ≡ length s
-      go true s = length_put s (place (suc n)) (what (suc n))
+      go : (t : Bool) (s : List ℕ) → length (cond t (put s (place (suc n)) (what s (suc n))) s) ≡ length s
+      go true s = length_put s (place (suc n)) (what s (suc n))
       go false s = refl
 
   -- what is set on banks 1 to n, and where, is all that counts
-  pub each_same : (what' : ℕ → Packet) (place' : ℕ → ℕ) (n : ℕ) (s : List ℕ)
-      → ((b : ℕ) → 1 ≤ b → b ≤ n → (place b ≡ place' b) × (what b ≡ what' b)) → each_bank test what place n s ≡ each_bank test what' place' n s
+  pub each_same : (what' : List ℕ → ℕ → Packet) (place' : ℕ → ℕ) (n : ℕ) (s : List ℕ)
+      → ((b : ℕ) → 1 ≤ b → b ≤ n → (place b ≡ place' b) × ((now : List ℕ) → what now b ≡ what' now b))
+      → each_bank test what place n s ≡ each_bank test what' place' n s
   unfolding each_bank
   each_same what' place' zero s same = refl
   each_same what' place' (suc n) s same =
       let last = same (suc n) (omega arith) (omega arith) in
-      rw (last.0, last.1, each_same what' place' n s (λ b l u. same b l (omega arith))) refl
+      rw (last.0, last.1 (each_bank test what place n s), each_same what' place' n s (λ b l u. same b l (omega arith))) refl
 
   module _ (P : ℕ) where
     -- one bank leaves a cell apart from its own, and a byte outside it
-    pub bank_apart : (b : ℕ) (s : List ℕ) (f : ℕ) → (test b ≡ true → (length (what b) ≡ P) × Apart P f (place b)) → f + P ≤ length s
+    pub bank_apart : (b : ℕ) (s : List ℕ) (f : ℕ) → (test b ≡ true → (length (what s b) ≡ P) × Apart P f (place b)) → f + P ≤ length s
         → cell (bank_set test what place b s) f P ≡ cell s f P
     bank_apart b s f out fits = go (test b) out
       where
-        go : (t : Bool) → (t ≡ true → (length (what b) ≡ P) × Apart P f (place b)) → cell (cond t (put s (place b) (what b)) s) f P ≡ cell s f P
-        go true out = let o = out refl in cell_put_out s (place b) (what b) f P (rw o.0 o.1) fits
+        go : (t : Bool) → (t ≡ true → (length (what s b) ≡ P) × Apart P f (place b)) → cell (cond t (put s (place b) (what s b)) s) f P ≡ cell s f P
+        go true out = let o = out refl in cell_put_out s (place b) (what s b) f P (rw o.0 o.1) fits
         go false out = refl
 
-    bank_outside : (b : ℕ) (s : List ℕ) (x : ℕ) → (test b ≡ true → (length (what b) ≡ P) × Outside P (place b) x)
+    bank_outside : (b : ℕ) (s : List ℕ) (x : ℕ) → (test b ≡ true → (length (what s b) ≡ P) × Outside P (place b) x)
         → get_or (bank_set test what place b s) x 0 ≡ get_or s x 0
     bank_outside b s x out = go (test b) out
       where
-        go : (t : Bool) → (t ≡ true → (length (what b) ≡ P) × Outside P (place b) x) → get_or (cond t (put s (place b) (what b)) s) x 0 ≡ get_or s x 0
-        go true out = let o = out refl in get_or_put_out s (place b) (what b) x (rw o.0 o.1)
+        go : (t : Bool) → (t ≡ true → (length (what s b) ≡ P) × Outside P (place b) x) → get_or (cond t (put s (place b) (what s b)) s) x 0 ≡ get_or s x 0
+        go true out = let o = out refl in get_or_put_out s (place b) (what s b) x (rw o.0 o.1)
         go false out = refl
 
-    abbrev Whole : ℕ → Type 0
-    Whole n = (b : ℕ) → 1 ≤ b → b ≤ n → test b ≡ true → length (what b) ≡ P
+    -- what it may be set to has P bytes, in every store of this size
+    abbrev Whole : (n size : ℕ) → Type 0
+    Whole n size = (b : ℕ) → 1 ≤ b → b ≤ n → test b ≡ true → (now : List ℕ) → length now ≡ size → length (what now b) ≡ P
 
-    each_cell : (n : ℕ) (s : List ℕ) → Whole n → Room P place n (length s) → (b : ℕ) → 1 ≤ b → b ≤ n → test b ≡ true
-        → cell (each_bank test what place n s) (place b) P ≡ what b
+    -- each has what was given for the store as it then stood
+    each_cell : (n : ℕ) (s : List ℕ) → Whole n (length s) → Room P place n (length s) → (b : ℕ) → 1 ≤ b → b ≤ n → test b ≡ true
+        → cell (each_bank test what place n s) (place b) P ≡ what (each_bank test what place (b - 1) s) b
     unfolding each_bank
     each_cell zero s w r b l u on = absurd (omega arith)
     each_cell (suc n) s w r b l u on =
@@ -100,22 +103,26 @@ module _ (test : ℕ → Bool) (what : ℕ → Packet) (place : ℕ → ℕ) whe
         ⊎_elim
         (λ (e : b ≡ suc n).
         let here : test (suc n) ≡ true = rw e at on in
-        rw (e, here)
-        (cell_put before (place (suc n)) (what (suc n)) P (w (suc n) (omega arith) (omega arith) here) (rw len (r.within (suc n) (omega arith) (omega arith)))))
+        let last : suc n - 1 ≡ n = omega arith in
+        rw (e, here, last)
+        (cell_put before (place (suc n)) (what before (suc n)) P (w (suc n) (omega arith) (omega arith) here before len)
+        (rw len (r.within (suc n) (omega arith) (omega arith)))))
         (λ (m : b < suc n).
-        bank_apart (suc n) before (place b) (λ here. (w (suc n) (omega arith) (omega arith) here, inl (r.rising b (suc n) l m (omega arith)))) (rw len (r.within b l u))
+        bank_apart (suc n) before (place b) (λ here. (w (suc n) (omega arith) (omega arith) here before len, inl (r.rising b (suc n) l m (omega arith)))) (rw len (r.within b l u))
         ∙ each_cell n s (λ c p q. w c p (omega arith)) (fewer n (omega arith) r) b l (omega arith) on)
         (eq-or-lt_of_le u)
 
-    each_other : (n : ℕ) (s : List ℕ) → Whole n → (x : ℕ) → ((b : ℕ) → 1 ≤ b → b ≤ n → test b ≡ true → Outside P (place b) x)
+    each_other : (n : ℕ) (s : List ℕ) → Whole n (length s) → (x : ℕ) → ((b : ℕ) → 1 ≤ b → b ≤ n → test b ≡ true → Outside P (place b) x)
         → get_or (each_bank test what place n s) x 0 ≡ get_or s x 0
     unfolding each_bank
     each_other zero s w x out = refl
     each_other (suc n) s w x out =
-        bank_outside (suc n) (each_bank test what place n s) x (λ here. (w (suc n) (omega arith) (omega arith) here, out (suc n) (omega arith) (omega arith) here))
+        bank_outside (suc n) (each_bank test what place n s) x
+        (λ here. (w (suc n) (omega arith) (omega arith) here (each_bank test what place n s) (length_each n s), out (suc n) (omega arith) (omega arith) here))
         ∙ each_other n s (λ b l u. w b l (omega arith)) x (λ b l u. out b l (omega arith))
 
-    pub each_set : (n : ℕ) (s : List ℕ) → Whole n → Room P place n (length s) → BanksSet P test what place n s (each_bank test what place n s)
+    pub each_set : (n : ℕ) (s : List ℕ) → Whole n (length s) → Room P place n (length s)
+        → BanksSet P test (λ b. what (each_bank test what place (b - 1) s) b) place n s (each_bank test what place n s)
     each_set n s w r = record { size = length_each n s; banks = each_cell n s w r; others = each_other n s w }
 
 -- a cell apart from those that were set is as it was
@@ -133,7 +140,7 @@ cell_kept {P} {test} {what} {place} {n} {s} {after} set at fits apart =
 -- whether a bank that holds what it would be set to is set makes no difference
 pub each_agrees : (P : ℕ) (test : ℕ → Bool) (what all : ℕ → Packet) (place : ℕ → ℕ) (n : ℕ) (s : List ℕ) → ((b : ℕ) → length (all b) ≡ P)
     → Room P place n (length s) → ((b : ℕ) → 1 ≤ b → b ≤ n → cond (test b) (what b) (cell s (place b) P) ≡ all b)
-    → each_bank test what place n s ≡ each_bank (λ b. true) all place n s
+    → each_bank test (λ now. what) place n s ≡ each_bank (λ b. true) (λ now. all) place n s
 unfolding each_bank
 each_agrees P test what all place zero s size room same = refl
 each_agrees P test what all place (suc n) s size room same =
@@ -141,11 +148,11 @@ each_agrees P test what all place (suc n) s size room same =
     (go (test (suc n)) (same (suc n) (omega arith) (omega arith)))
   where
     before : List ℕ
-    before = each_bank (λ b. true) all place n s
+    before = each_bank (λ b. true) (λ now. all) place n s
 
     kept : cell before (place (suc n)) P ≡ cell s (place (suc n)) P
     kept =
-        cell_kept (each_set (λ b. true) all place P n s (λ b l u on. size b) (fewer n (omega arith) room)) (place (suc n))
+        cell_kept (each_set (λ b. true) (λ now. all) place P n s (λ b l u on now len. size b) (fewer n (omega arith) room)) (place (suc n))
         (room.within (suc n) (omega arith) (omega arith)) (λ b l u on. inr (room.rising b (suc n) l (omega arith) (omega arith)))
 
     go : (t : Bool) → cond t (what (suc n)) (cell s (place (suc n)) P) ≡ all (suc n)

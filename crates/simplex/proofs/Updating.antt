@@ -4,11 +4,11 @@ use mathlib.Core.Logic.{inl, inr}
 use mathlib.Core.Bool.{Bool, true, false, cond}
 use mathlib.Core.List.{List, [], ◌∷◌}
 use Prim.Native.Nat.{ℕ, zero, suc, ◌+◌, ◌-◌, ◌/◌, ◌%◌, ◌^◌, ◌≤◌, ◌<◌}
-use native.Mathlib.Nat.{le_of_suc-le-suc, le_of_eq, le_refl, pow-suc, div-one, not-suc-le-zero}
+use native.Mathlib.Nat.{le_of_suc-le-suc, le_of_eq, le_refl, div-one, not-suc-le-zero}
 use native.Mathlib.Omega.{arith}
 use borrow.Author.Tests.{eq-eqb}
-use lib.ListN.{length, get_or, set}
-use lib.Pow.{pow_pos, pow_mono}
+use lib.ListN.{length, get_or, set, length-set}
+use lib.Pow.{pow_pos}
 use Rattle.bits.specs.Bits.{bit}
 use Rattle.bits.specs.Marks.{how_many}
 use Rattle.bits.proofs.Digits.{digit, low_lt}
@@ -27,6 +27,7 @@ use Rattle.simplex.specs.Banks.{Room, bank_set, each_bank, BanksSet}
 use Rattle.simplex.specs.Filling.{filled}
 use Rattle.simplex.specs.Updating.{bank_updated, symbol_updated}
 use Rattle.simplex.proofs.Banks.{xor_if, cell_cons, cell_one, length_bank}
+use Rattle.simplex.proofs.Filling.{filled_cells}
 use Rattle.simplex.proofs.Setting.{fewer, each_more, none_set, each_same, bank_apart, each_set, cell_kept, each_agrees}
 
 -- ---- the banks that hold a symbol
@@ -41,19 +42,16 @@ holders K i l =
     let none : has_symbol 0 i ≡ false = unmarked i in
     omega (arith, ap (how_many (λ b. has_symbol b i)) all, many_after (λ b. has_symbol b i) (banks_of K), ap (λ (t : Bool). cond {A = ℕ} t 1 0) none, bit_many K i l)
 
-pub systematic_bank : (K i : ℕ) → i < K → 2 ^ i ≤ banks_of K
-systematic_bank K i l = let up : 2 ^ suc i ≤ 2 ^ K = pow_mono l in omega (arith, pow-suc 2 i, pow_pos i)
-
 -- ---- the cells that are set
 
 -- placings that agree on banks 1 to n
 pub updated_same : (P i : ℕ) (packet : Packet) (place other : ℕ → ℕ) (n : ℕ) (s : List ℕ) → 2 ^ i ≤ n
     → ((b : ℕ) → 1 ≤ b → b ≤ n → place b ≡ other b) → symbol_updated P i packet place n s ≡ symbol_updated P i packet other n s
 updated_same P i packet place other n s systematic same =
-    each_same (λ b. has_symbol b i) (bank_updated P i packet place s) place (bank_updated P i packet other s) other n s
+    each_same (λ b. has_symbol b i) (λ now. bank_updated P i packet place s) place (λ now. bank_updated P i packet other s) other n s
     (λ b l u. (
       same b l u,
-      ap₂ (λ (at first : ℕ). xor_bytes (cell s at P) (xor_bytes (cell s first P) packet)) (same b l u) (same (2 ^ i) (pow_pos i) systematic),
+      λ now. ap₂ (λ (at first : ℕ). xor_bytes (cell s at P) (xor_bytes (cell s first P) packet)) (same b l u) (same (2 ^ i) (pow_pos i) systematic),
     ))
 
 -- of the store s as it came, and the store now, in the loop: it leaves the systematic bank, which still has the old packet, to the end, and with the new packet
@@ -83,7 +81,7 @@ module _ (P i : ℕ) (packet : Packet) (place : ℕ → ℕ) (n : ℕ) (s : List
       length_xor (cell s (place b) P) (xor_bytes (cell s first P) packet) (own ∙ sym change) ∙ own
 
   up_to : (m : ℕ) → m ≤ n → BanksSet P holds what place m s (symbol_updated P i packet place m s)
-  up_to m h = each_set holds what place P m s (λ b l u on. what_size b l (omega arith)) (fewer m h room)
+  up_to m h = each_set holds (λ now. what) place P m s (λ b l u on now len. what_size b l (omega arith)) (fewer m h room)
 
   pub updated : BanksSet P holds what place n s (symbol_updated P i packet place n s)
   updated = up_to n (le_refl n)
@@ -91,18 +89,18 @@ module _ (P i : ℕ) (packet : Packet) (place : ℕ → ℕ) (n : ℕ) (s : List
   -- what lies before the systematic bank holds no symbol i, and there the XOR is the new packet
   pub turned_first : Turned P i packet place s (2 ^ i) s
   turned_first =
-      let none = none_set holds what place (2 ^ i - 1) s (λ b l u. lt_none b i (omega (arith, pow_pos i)) i (le_refl i)) in
+      let none = none_set holds (λ now. what) place (2 ^ i - 1) s (λ b l u. lt_none b i (omega (arith, pow_pos i)) i (le_refl i)) in
       let back : what (2 ^ i) ≡ packet = xor_back (cell s first P) packet (first_size ∙ sym size) in
       record {
         old = refl;
         changed = sym
-            (sym (each_more holds what place (2 ^ i) s (pow_pos i)) ∙ ap (bank_set holds what place (2 ^ i)) none
+            (sym (each_more holds (λ now. what) place (2 ^ i) s (pow_pos i)) ∙ ap (bank_set holds (λ now. what) place (2 ^ i)) none
             ∙ rw (systematic_holds i) (ap (put s first) back));
       }
 
   -- a bank behind it: it is as it was, its change leaves the systematic bank so, and does not depend on it
   pub turned_more : (m b : ℕ) (now : List ℕ) → b ≡ suc m → 2 ^ i ≤ m → b ≤ n → length now ≡ length s → Turned P i packet place s m now
-      → Turned P i packet place s b (bank_set holds (bank_updated P i packet place now) place b now)
+      → Turned P i packet place s b (bank_set holds (bank_updated P i packet place) place b now)
   unfolding each_bank
   turned_more m b now e l u same t =
       let within : place b + P ≤ length s = room.within b (omega arith) u in
@@ -115,8 +113,8 @@ module _ (P i : ℕ) (packet : Packet) (place : ℕ → ℕ) (n : ℕ) (s : List
       ap₂ (λ (c old : Packet). xor_bytes c (xor_bytes old packet)) own t.old in
       subst (λ (c : Packet). Turned P i packet place s b (cond (holds b) (put now (place b) c) now)) (sym is)
       (record {
-        old = bank_apart holds what place P b now first (λ on. (what_size b (omega arith) u, inl behind)) (omega arith) ∙ t.old;
-        changed = swapped now (place b) (what b) past (holds b) ∙ rw e (ap (bank_set holds what place (suc m)) t.changed);
+        old = bank_apart holds (λ now. what) place P b now first (λ on. (what_size b (omega arith) u, inl behind)) (omega arith) ∙ t.old;
+        changed = swapped now (place b) (what b) past (holds b) ∙ rw e (ap (bank_set holds (λ now. what) place (suc m)) t.changed);
       })
     where
       swapped : (now : List ℕ) (at : ℕ) (c : Packet) → first + length packet ≤ at → (t : Bool)
@@ -189,7 +187,8 @@ module _ (P : ℕ) (packets : List Packet) (i : ℕ) (packet : Packet) (place : 
           (ap₂ (λ (c d : Packet). xor_bytes c (xor_bytes d packet)) (cells b l u) old_there ∙ comm (bank_cell P packets b) (xor_bytes old packet))
       go false e = let none : bit b i ≡ 0 = bit_mark b i ∙ rw e in rw none (cells b l u)
 
-  pub fresh : symbol_updated P i packet place n s ≡ filled P (set packets i packet) place n s
-  fresh =
+  pub fresh : n ≤ banks_of (length packets) → symbol_updated P i packet place n s ≡ filled P (set packets i packet) place n s
+  fresh most =
       each_agrees P (λ b. has_symbol b i) (bank_updated P i packet place s) (bank_cell P (set packets i packet)) place n s
       (λ b. length_bank P (set packets i packet) b edited_sized) room each
+      ∙ sym (filled_cells P (set packets i packet) place edited_sized n s (rw (length-set packets i packet) most) room)

@@ -12,12 +12,13 @@ pub record Room (P : ℕ) (place : ℕ → ℕ) (n size : ℕ) : Type 0 where
   pub within : (b : ℕ) → 1 ≤ b → b ≤ n → place b + P ≤ size
   pub rising : (a b : ℕ) → 1 ≤ a → a < b → b ≤ n → place a + P ≤ place b
 
--- The store with the cell of bank b, at the index `place b`, set to `what b`, if the bank passes the test.
-abbrev pub bank_set : (test : ℕ → Bool) (what : ℕ → Packet) (place : ℕ → ℕ) (b : ℕ) (store : List ℕ) → List ℕ
-bank_set test what place b store = if test b then put store (place b) (what b) else store
+-- The store with the cell of bank b, at the index `place b`, set to what `what` gives for the store as it stands and for b, if the bank
+-- passes the test.
+abbrev pub bank_set : (test : ℕ → Bool) (what : (store : List ℕ) → ℕ → Packet) (place : ℕ → ℕ) (b : ℕ) (store : List ℕ) → List ℕ
+bank_set test what place b store = if test b then put store (place b) (what store b) else store
 
--- The same for banks 1 to n, one after the other.
-unfoldable pub each_bank : (test : ℕ → Bool) (what : ℕ → Packet) (place : ℕ → ℕ) (n : ℕ) (store : List ℕ) → List ℕ
+-- The same for banks 1 to n, one after the other: so what a bank is set to may come from the banks before it.
+unfoldable pub each_bank : (test : ℕ → Bool) (what : (store : List ℕ) → ℕ → Packet) (place : ℕ → ℕ) (n : ℕ) (store : List ℕ) → List ℕ
 each_bank test what place zero store = store
 each_bank test what place (suc n) store = bank_set test what place (suc n) (each_bank test what place n store)
 

@@ -12,6 +12,13 @@ use Rattle.simplex.specs.Banks.{spaced, Room, each_bank, BanksSet}
 use Rattle.simplex.specs.Filling.{packets_of, filled, running_step, Fillable}
 use Rattle.simplex.specs.Updating.{bank_updated, symbol_updated}
 
+-- The fixed table, by K: the banks of a group, and the most reads of a group in a cycle.
+pub record TheFixedTable : Type 0 where
+  pub two : (banks_of 2 ≡ 3) × (limit_of 2 ≡ 2)
+  pub three : (banks_of 3 ≡ 7) × (limit_of 3 ≡ 4)
+  pub four : (banks_of 4 ≡ 15) × (limit_of 4 ≡ 8)
+  pub five : (banks_of 5 ≡ 31) × (limit_of 5 ≡ 16)
+
 -- linear: the XOR of the cells of banks a and b is the cell of a XOR b.
 -- two: if a XOR b = 2^i, the two cells XOR to packet i. alone: the systematic bank 2^i (customers say: a single bank) holds packet i.
 -- yields: a set of banks whose numbers XOR to 2^i yields symbol i. fails: a set of banks that fails a symbol does not yield it.
@@ -31,13 +38,15 @@ odd_banks zero = 0
 odd_banks (suc n) = degree_of (suc n) % 2 + odd_banks n
 
 -- numbers: a group's banks are numbered from 1 to 2^K - 1.
+-- degree: the degree of a bank is the number of its symbols.
 -- holders: exactly 2^(K-1) of the banks, which are numbered from 1, hold symbol i. odd: exactly 2^(K-1) of them have odd degree.
 -- highest: a bank holds its highest symbol and none above it. rest: the number without that symbol holds the bank's other symbols and no
 -- more.
 -- lower: where a bank has degree two or more, that number is a bank with a lower number, of one degree less.
--- kinds: every other bank is systematic.
+-- kinds: a bank of lower degree is systematic.
 pub record TheSymbols : Type 0 where
   pub numbers : (K b : ℕ) → (is_bank K b ≡ true) ↔ ((1 ≤ b) × (b ≤ banks_of K))
+  pub degree : (K b : ℕ) → b < 2 ^ K → degree_of b ≡ how_many (has_symbol b) K
   pub holders : (K i : ℕ) → i < K → how_many (λ b. has_symbol (suc b) i) (banks_of K) ≡ 2 ^ (K - 1)
   pub odd : (K : ℕ) → 1 ≤ K → odd_banks (banks_of K) ≡ limit_of K
   pub highest : (b : ℕ) → 1 ≤ b → (has_symbol b (highest_of b) ≡ true)
@@ -48,18 +57,31 @@ pub record TheSymbols : Type 0 where
       → (1 ≤ without_highest b) × (without_highest b < b) × (degree_of b ≡ suc (degree_of (without_highest b)))
   pub kinds : (b : ℕ) → 1 ≤ b → (2 ^ highest_of b ≡ b) ⊎ (2 ≤ degree_of b)
 
--- each: of the banks in a store, wherever they have room, those that pass a test can be set, to P bytes each, with no other byte changed.
+-- each: of the banks in a store, wherever they have room, those that pass a test can be set one after the other, to P bytes each, with no
+-- other byte changed: each holds what was given for the store as it stood when its turn came.
+-- copies, steps: after the banks before it, a systematic bank is filled by a copy of its packet, and one of degree two or more by a step of
+-- running XOR, wherever they lie and whatever the store holds.
+-- sources: of a bank 2^i + r, with r from 1 on below 2^i, the step takes the cell of bank r, as it then stands, and packet i.
 -- holds: so banks that are filled hold what the code says; filling: as they are after `fill_group`.
--- updated: so an update changes the cells of the banks that hold the symbol, whatever is there.
--- copies, steps: with the banks before it filled, a systematic bank is filled by a copy of its packet, and one of degree two or more by a
--- step.
+-- updated: an update changes the cells of the banks that hold the symbol, whatever is there.
 -- fresh: where the banks hold what the code says, the store after an update is the store filled with the new packet in the old one's place.
 pub record TheBanks : Type 0 where
-  pub each : (P : ℕ) (test : ℕ → Bool) (what : ℕ → Packet) (place : ℕ → ℕ) (n : ℕ) (store : List ℕ)
-      → ((b : ℕ) → 1 ≤ b → b ≤ n → test b ≡ true → length (what b) ≡ P) → Room P place n (length store)
-      → BanksSet P test what place n store (each_bank test what place n store)
-  pub holds : (P : ℕ) (packets : List Packet) (place : ℕ → ℕ) (n : ℕ) (store : List ℕ) → Sized P packets
+  pub each : (P : ℕ) (test : ℕ → Bool) (what : List ℕ → ℕ → Packet) (place : ℕ → ℕ) (n : ℕ) (store : List ℕ)
+      → ((b : ℕ) → 1 ≤ b → b ≤ n → test b ≡ true → (now : List ℕ) → length now ≡ length store → length (what now b) ≡ P)
       → Room P place n (length store)
+      → BanksSet P test (λ b. what (each_bank test what place (b - 1) store) b) place n store (each_bank test what place n store)
+  pub copies : (K P : ℕ) (packets : List ℕ) (i : ℕ) (place : ℕ → ℕ) (store : List ℕ) → i < K
+      → put (filled P (packets_of P K packets) place (2 ^ i - 1) store) (place (2 ^ i)) (cell packets (i * P) P)
+      ≡ filled P (packets_of P K packets) place (2 ^ i) store
+  pub steps : (K P : ℕ) (packets : List ℕ) (b : ℕ) (place : ℕ → ℕ) (store : List ℕ) → 2 ≤ degree_of b → b ≤ banks_of K
+      → running_step P packets place b (filled P (packets_of P K packets) place (b - 1) store)
+      ≡ filled P (packets_of P K packets) place b store
+  pub sources : (K P : ℕ) (packets : List ℕ) (i r : ℕ) (place : ℕ → ℕ) (store : List ℕ) → i < K → 1 ≤ r → r < 2 ^ i
+      → let before = filled P (packets_of P K packets) place (2 ^ i + r - 1) store in
+      put before (place (2 ^ i + r)) (xor_bytes (cell before (place r) P) (cell packets (i * P) P))
+      ≡ filled P (packets_of P K packets) place (2 ^ i + r) store
+  pub holds : (P : ℕ) (packets : List Packet) (place : ℕ → ℕ) (n : ℕ) (store : List ℕ) → Sized P packets
+      → n ≤ banks_of (length packets) → Room P place n (length store)
       → BanksSet P (λ b. true) (bank_cell P packets) place n store (filled P packets place n store)
   pub filling : (K P at step : ℕ) (packets store : List ℕ) → Fillable K P at step packets store
       → BanksSet P (λ b. true) (bank_cell P (packets_of P K packets)) (spaced at step) (banks_of K) store
@@ -67,15 +89,8 @@ pub record TheBanks : Type 0 where
   pub updated : (P i : ℕ) (packet : Packet) (place : ℕ → ℕ) (n : ℕ) (store : List ℕ) → length packet ≡ P → 2 ^ i ≤ n
       → Room P place n (length store)
       → BanksSet P (λ b. has_symbol b i) (bank_updated P i packet place store) place n store (symbol_updated P i packet place n store)
-  pub copies : (K P : ℕ) (packets : List ℕ) → K * P ≤ length packets
-      → (i : ℕ) (place : ℕ → ℕ) (store : List ℕ) → i < K
-      → put (filled P (packets_of P K packets) place (2 ^ i - 1) store) (place (2 ^ i)) (cell packets (i * P) P)
-      ≡ filled P (packets_of P K packets) place (2 ^ i) store
-  pub steps : (K P : ℕ) (packets : List ℕ) → K * P ≤ length packets
-      → (b : ℕ) (place : ℕ → ℕ) (store : List ℕ) → 2 ≤ degree_of b → b ≤ banks_of K → Room P place b (length store)
-      → running_step P packets place b (filled P (packets_of P K packets) place (b - 1) store)
-      ≡ filled P (packets_of P K packets) place b store
   pub fresh : (P : ℕ) (packets : List Packet) (i : ℕ) (packet : Packet) (place : ℕ → ℕ) (n : ℕ) (store : List ℕ)
-      → i < length packets → 2 ^ i ≤ n → Sized P packets → length packet ≡ P → Room P place n (length store)
+      → i < length packets → 2 ^ i ≤ n → n ≤ banks_of (length packets) → Sized P packets → length packet ≡ P
+      → Room P place n (length store)
       → ((b : ℕ) → 1 ≤ b → b ≤ n → cell store (place b) P ≡ bank_cell P packets b)
       → symbol_updated P i packet place n store ≡ filled P (set packets i packet) place n store

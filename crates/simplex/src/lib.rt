@@ -5,7 +5,7 @@ ghost use Rattle.std.specs.Prelude.{◌≡◌, suc, ◌+◌, ◌*◌, ◌^◌, �
 ghost use Rattle.cells.specs.Cell.{cell};
 ghost use Rattle.simplex.specs.Shape.{SymbolsInRange, banks_of, group_of, degree_of};
 ghost use Rattle.simplex.specs.Limit.{TheLimit, LimitOfReads, LimitMet};
-ghost use Rattle.simplex.specs.Laws.{TheCode, TheSymbols, TheBanks};
+ghost use Rattle.simplex.specs.Laws.{TheFixedTable, TheCode, TheSymbols, TheBanks};
 ghost use Rattle.simplex.specs.Banks.{spaced};
 ghost use Rattle.simplex.specs.Filling.{packets_of, filled, running_step, Fillable};
 ghost use Rattle.simplex.specs.Symbols.{highest_of};
@@ -49,7 +49,7 @@ pub fn group_of(k: usize) -> Group
 }
 
 // The degree of a bank.
-pub fn degree(bank: u32) -> u32
+pub fn degree(bank: usize) -> u32
     ensures { result ≡ degree_of bank }
 {
     bank.count_ones()
@@ -57,6 +57,7 @@ pub fn degree(bank: u32) -> u32
 
 // Carries the laws of the code. It does nothing.
 pub fn the_code()
+    ensures table { TheFixedTable }
     ensures code { TheCode }
     ensures symbols { TheSymbols }
     ensures banks { TheBanks }
@@ -119,8 +120,8 @@ pub fn running_step(store: &mut [u8], banks: Spacing, packets: &[u8], p: usize, 
     cells::xor_from(store, at, from, packet_of(packets, p, highest));
 }
 
-// Fills one group's banks in one row of `store` from its `k` packets of `p` bytes: a systematic bank is a copy of its packet, and every
-// other a step of running XOR. They go in the order of their numbers, since the bank that a step comes from has a lower one.
+// Fills one group's banks in one row of `store` from its `k` packets of `p` bytes: a bank of degree one by a copy of its packet, and every
+// other by a step of running XOR. They go in the order of their numbers, since the bank that a step comes from has a lower one.
 #[tactic(auto, using(crate::proofs::Running::degree_two))]
 pub fn fill_group(store: &mut [u8], banks: Spacing, packets: &[u8], p: usize, k: usize)
     requires { Fillable k p banks.at banks.step packets.now store.old }
@@ -128,7 +129,7 @@ pub fn fill_group(store: &mut [u8], banks: Spacing, packets: &[u8], p: usize, k:
         (spaced banks.at banks.step) (banks_of k) store.old }
 {
     for bank in 1..=group_of(k).banks {
-        if bank.is_power_of_two() {
+        if degree(bank) == 1 {
             let packet = packet_of(packets, p, highest_of(bank));
             cells::copy_into(store, banks.place_of(bank), packet);
         } else {

@@ -2,10 +2,10 @@
 use mathlib.Core.Path.{◌≡◌, refl, sym, ap, ◌∙◌}
 use mathlib.Core.Logic.{◌⊎◌, inl, inr, ⊎_elim}
 use mathlib.Core.Bool.{Bool, true, false, cond}
-use mathlib.Core.List.{List, ◌∷◌, ◌++◌}
+use mathlib.Core.List.{List, [], ◌∷◌, ◌++◌}
 use Prim.Native.Nat.{ℕ, ◌≤◌, ◌<◌, min}
 use native.Mathlib.Omega.{arith}
-use lib.ListN.{length, take, drop, take-append-drop, length-drop}
+use lib.ListN.{length, take, drop, take-append-drop}
 use Rattle.std.specs.Prelude.{Err}
 use Rattle.refusals.specs.declared.Refusal.{Refusal}
 use Rattle.refusals.specs.Verdict.{Verdict, Accepted}
@@ -19,7 +19,7 @@ use Rattle.memory.specs.Meaning.{Operation}
 use Rattle.memory.specs.Meaning as operation
 use Rattle.memory.specs.History.{outcome_of, store_after, packets_by}
 use Rattle.frames.specs.declared.TheConstants.{MOST_FRAME, MOST_STORE}
-use Rattle.frames.specs.Frame.{Frame, set_up, write, release, read, unknown, frame_of, first_byte}
+use Rattle.frames.specs.Frame.{Frame, unknown, set_up_frame, read, write_frame, release_frame, frame_of, first_byte}
 use Rattle.frames.specs.Printing.{said, Prints}
 use Rattle.frames.proofs.Framed.{decoded}
 use Rattle.steps.specs.declared.Reply.{Reply}
@@ -85,18 +85,36 @@ writes st store size row packets fits e =
 
 -- ---- the list of a 04
 
-few_by : (a b c d : Bool) (shape : Shape) (row other : ℕ) (packets list : List ℕ) → length list < MOST_FRAME
-    → FewReads (cond a (set_up shape) (cond b (write row packets) (cond c (release other) (cond d (read list) unknown))))
-few_by true b c d shape row other packets list h = tt
-few_by false true c d shape row other packets list h = tt
-few_by false false true d shape row other packets list h = tt
-few_by false false false true shape row other packets list h = h
-few_by false false false false shape row other packets list h = tt
+few_set_up : (fields : List ℕ) → FewReads (set_up_frame fields)
+few_set_up [] = tt
+few_set_up (a ∷ []) = tt
+few_set_up (a ∷ b ∷ []) = tt
+few_set_up (a ∷ b ∷ c ∷ []) = tt
+few_set_up (a ∷ b ∷ c ∷ d ∷ []) = tt
+few_set_up (a ∷ b ∷ c ∷ d ∷ e ∷ []) = tt
+few_set_up (a ∷ b ∷ c ∷ d ∷ e ∷ f ∷ fields) = tt
+
+few_write : (fields : List ℕ) → FewReads (write_frame fields)
+few_write [] = tt
+few_write (row ∷ packets) = tt
+
+few_release : (fields : List ℕ) → FewReads (release_frame fields)
+few_release [] = tt
+few_release (row ∷ []) = tt
+few_release (row ∷ other ∷ fields) = tt
+
+few_by : (a b c d : Bool) (fields : List ℕ) → length fields < MOST_FRAME
+    → FewReads (cond a (set_up_frame fields) (cond b (write_frame fields) (cond c (release_frame fields) (cond d (read fields) unknown))))
+few_by true b c d fields h = few_set_up fields
+few_by false true c d fields h = few_write fields
+few_by false false true d fields h = few_release fields
+few_by false false false true fields h = h
+few_by false false false false fields h = tt
 
 pub few_reads : (bytes : List ℕ) → length bytes ≤ MOST_FRAME → FewReads (frame_of bytes)
 unfolding frame_of
-few_reads bytes h =
-    few_by _ _ _ _ _ _ _ _ (drop 1 bytes) (omega (arith, length-drop 1 bytes))
+few_reads [] h = tt
+few_reads (kind ∷ fields) h = few_by _ _ _ _ fields (omega arith)
 
 -- what a line owes its answer
 pub ruleset line_fits = (line_place, few_reads, decoded)

@@ -29,6 +29,7 @@ use Rattle.lines.specs.Hex.{bytes_of}
 use Rattle.frames.specs.declared.TheConstants.{MOST_STORE}
 use Rattle.frames.specs.Frame.{read, unknown, frame_of, frame_in, line_refusal, first_byte}
 use Rattle.frames.specs.Printing.{said}
+use Rattle.frames.proofs.Framed.{in_line}
 use Rattle.steps.specs.Asked.{Asked, asks_nothing, asks_set_up, asks_operation, asked, cycle_of}
 use Rattle.steps.specs.Session.{Session, Fresh, Running, Done, unless_refused, set_up_refusal, memory_of, behind, operation_done, done_by, frame_done, line_by, line_done, lines_done, from_start, answer_after}
 use Rattle.steps.specs.Past.{Past, nothing, since, more, past_by_asked, past_by, past_in, Keeps, Brings}
@@ -177,14 +178,6 @@ as_long st s reads out schedule = go (cycle_refusal st (length s) reads (length 
     go Accepted = length_each st.shape.p (packet_of st.shape (plans_of st.shape.k (reads_in reads)) s (reads_in reads)) (length (reads_in reads)) out
     go (Err refusal) = refl
 
--- a line that is a frame is not refused
-framed : (line list : List ℕ) → frame_in line ≡ read list → (line_refusal line ≡ Accepted) × (frame_of (bytes_of line) ≡ read list)
-framed line list e = go (line_refusal line) e
-  where
-    go : (v : Verdict) → if_refused unknown (frame_of (bytes_of line)) v ≡ read list → (v ≡ Accepted) × (frame_of (bytes_of line) ≡ read list)
-    go Accepted e = (refl, e)
-    go (Err refusal) e = absurd (cc)
-
 brings : (sh : Shape) (history : History) (session : Session) (store line list : List ℕ) → Keeps (since sh history) session store
     → frame_in line ≡ read list → verdict_in sh history (cycle_of list sh) ≡ Accepted
     → Brings sh history list (line_done session store line).answer
@@ -200,7 +193,7 @@ brings sh history session store line list k is v =
     let schedule : List ℕ = zeros (length (reads_in list) * 2) in
     let size : length (cycle_output st (memory_of st store).store list out schedule) ≡ length (reads_in list) * sh.p =
     as_long st (memory_of st store).store list out schedule ∙ length-replicate {A = ℕ} many 0 ∙ ap (λ (s : Shape). length (reads_in list) * s.p) r.agrees.of_shape in
-    let f = framed line list is in
+    let f = in_line line (read list) is (λ e. cc) in
     rw (f.0, f.1, k.1) (said_packets sh history list _ _ served size (λ n l. (r.returns list out schedule served n l).1.packet))
 
 pub returned : (lines : List (List ℕ)) (line : List ℕ) (sh : Shape) (history : History) (list : List ℕ)

@@ -4,4 +4,7 @@ pub mod Rooms
 pub mod Done
 pub mod Cycles
 pub mod Kept
+pub mod SetUps
+pub mod Refused
+pub mod Told
 pub mod Sessions

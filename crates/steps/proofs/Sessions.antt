@@ -1,38 +1,60 @@
--- A session line by line: one output line for each, the laws of a session, and the turns of a loop over a text.
-use mathlib.Core.Path.{◌≡◌, refl, sym, ap, ◌∙◌}
+-- A session line by line: one output line for each, and the laws of a session.
+use mathlib.Core.Path.{◌≡◌, refl, ap, ◌∙◌}
 use mathlib.Core.Bool.{Bool, true, false, cond}
 use mathlib.Core.List.{List, [], ◌∷◌, ◌++◌}
-use Prim.Native.Nat.{ℕ, zero, suc, ◌+◌, ◌-◌, ◌/◌, ◌%◌, ◌≤◌, ◌<◌}
+use Prim.Native.Nat.{ℕ, zero, suc, ◌+◌, ◌-◌, ◌/◌, ◌%◌, ◌<◌}
 use native.Mathlib.Omega.{arith}
 use borrow.Author.Tests.{ne_eqb}
 use lib.Dec.{eqb, ltb}
-use lib.ListN.{length, get_or, take, drop, length-append}
+use Rattle.std.proofs.Common.{append_assoc, append-nil}
+use lib.ListN.{length, get_or, take}
 use Rattle.cells.specs.Xor.{zeros}
-use Rattle.cells.proofs.Cells.{length_put}
-use Rattle.lines.specs.declared.reader.Reader.{Reader}
-use Rattle.lines.specs.Lines.{line_feed, lines_of, first_line, line_at}
+use Rattle.lines.specs.Lines.{line_feed, lines_of, first_line, behind_line, closed}
 use Rattle.lines.specs.Hex.{char0, small_a, digit_of, digits_of}
 use Rattle.lines.proofs.Lines.{the_lines}
 use Rattle.frames.specs.declared.TheConstants.{MOST_STORE}
 use Rattle.frames.specs.Printing.{printed}
-use Rattle.steps.specs.declared.Next.{Next}
-use Rattle.steps.specs.declared.TheConstants.{MOST_TEXT}
-use Rattle.steps.specs.Session.{Session, Fresh, AfterLines, line_done, and_then, lines_done, text_read, text_done}
-use Rattle.steps.specs.Steps.{AnswersLine}
+use Rattle.steps.specs.Session.{Session, Fresh, line_done, and_then, lines_done, text_read}
 use Rattle.steps.specs.Laws.{TheSession}
 use Rattle.steps.proofs.Kept.{kept, returned}
+use Rattle.steps.proofs.SetUps.{afresh}
 
-next : (session : Session) (store text : List ℕ) (at : ℕ) → at < length text
-    → let first = line_done session store (first_line (drop at text)) in
-    lines_done session store (lines_of (drop at text))
-    ≡ and_then first (lines_done first.session first.store (lines_of (drop (line_at text at).next text)))
+next : (session : Session) (store text : List ℕ) → 0 < length text → let first = line_done session store (first_line text) in
+    lines_done session store (lines_of text) ≡ and_then first (lines_done first.session first.store (lines_of (behind_line text)))
 unfolding lines_done
-next session store text at h = rw (the_lines.next text at h)
+next session store text h = rw (the_lines.next text h)
 
-none : (session : Session) (store text : List ℕ) (at : ℕ) → length text ≤ at
-    → lines_done session store (lines_of (drop at text)) ≡ record { session = session; store = store; output = [] }
+none : (session : Session) (store : List ℕ) → lines_done session store (lines_of []) ≡ record { session = session; store = store; output = [] }
 unfolding lines_done
-none session store text at h = rw (the_lines.none text at h)
+none session store = rw the_lines.none
+
+-- ---- some lines, and others behind them
+
+-- what lines do is what the first of them do, and then the others
+done_append : (session : Session) (store : List ℕ) (lines others : List (List ℕ)) → let before = lines_done session store lines in
+    let after = lines_done before.session before.store others in
+    lines_done session store (lines ++ others) ≡ record { session = after.session; store = after.store; output = before.output ++ after.output }
+unfolding lines_done
+done_append session store [] others = refl
+done_append session store (line ∷ lines) others =
+    let first = line_done session store line in
+    let before = lines_done first.session first.store lines in
+    let after = lines_done before.session before.store others in
+    rw (done_append first.session first.store lines others, append_assoc (printed first.answer) before.output after.output)
+
+-- one line more
+pub done_more : (session : Session) (store : List ℕ) (lines : List (List ℕ)) (line : List ℕ) → let before = lines_done session store lines in
+    let last = line_done before.session before.store line in
+    lines_done session store (lines ++ line ∷ []) ≡ record { session = last.session; store = last.store; output = before.output ++ printed last.answer }
+unfolding lines_done
+done_more session store lines line = rw (done_append session store lines (line ∷ []), append-nil)
+
+-- the output up to a line, that line's, and the others'
+pub output_append : (session : Session) (store : List ℕ) (lines : List (List ℕ)) (line : List ℕ) (others : List (List ℕ)) → let before = lines_done session store lines in
+    let last = line_done before.session before.store line in
+    (lines_done session store (lines ++ line ∷ others)).output ≡ before.output ++ (printed last.answer ++ (lines_done last.session last.store others).output)
+unfolding lines_done
+output_append session store lines line others = rw (done_append session store lines (line ∷ others))
 
 -- ---- each line gives one output line
 
@@ -70,46 +92,30 @@ line_each session store (line ∷ lines) =
     let rest = lines_done first.session first.store lines in
     ap length (printed_line first.answer rest.output) ∙ ap suc (line_each first.session first.store lines)
 
+-- ---- the output ends in a line feed, if there is any
+
+closed_line : (front rest : List ℕ) → closed rest ≡ rest → closed (front ++ (line_feed ∷ rest)) ≡ front ++ (line_feed ∷ rest)
+closed_line [] [] e = refl
+closed_line [] (d ∷ rest) e = ap (λ (l : List ℕ). line_feed ∷ l) e
+closed_line (c ∷ []) rest e = ap (λ (l : List ℕ). c ∷ l) (closed_line [] rest e)
+closed_line (c ∷ d ∷ front) rest e = ap (λ (l : List ℕ). c ∷ l) (closed_line (d ∷ front) rest e)
+
+ended : (session : Session) (store : List ℕ) (lines : List (List ℕ)) → let output = (lines_done session store lines).output in closed output ≡ output
+unfolding lines_done
+ended session store [] = refl
+ended session store (line ∷ lines) =
+    let first = line_done session store line in
+    let rest = lines_done first.session first.store lines in
+    rw append_assoc (closed_line (digits_of first.answer) rest.output (ended first.session first.store lines))
+
 pub the_session : TheSession
 the_session = record {
   next = next;
   none = none;
   one = λ input. line_each Fresh (zeros MOST_STORE) (text_read input);
   each = λ input. in_order Fresh (zeros MOST_STORE) (text_read input);
+  ended = λ input. ended Fresh (zeros MOST_STORE) (text_read input);
+  afresh = afresh;
   kept = kept;
   returned = returned;
 }
-
--- ---- a loop over a text's lines
-
--- what is left to do, of all that there is, where so many bytes are printed
-pub record Ahead (all left : AfterLines) (printed : ℕ) : Type 0 where
-  pub session : left.session ≡ all.session
-  pub store : left.store ≡ all.store
-  pub output : printed + length left.output ≡ length all.output
-
-pub and_on : {all left then : AfterLines} {m n : ℕ} → Ahead all left m → Ahead left then n → Ahead all then (m + n)
-and_on a b = record { session = b.session ∙ a.session; store = b.store ∙ a.store; output = omega (arith, a.output, b.output) }
-
--- a turn: a line is done, the text is read further, and the line's answer has room in the output
-module _ {session : Session} {store : List ℕ} {reader : Reader} {out : List ℕ} {r : Next} {kept left : List ℕ} (a : AnswersLine session store reader out r kept left) where
-  pub turn : Ahead (lines_done session store (lines_of (drop reader.at reader.text.now))) (lines_done r.reply.session kept (lines_of (drop r.reader.at r.reader.text.now))) r.reply.len
-  turn =
-      let g = a.line in
-      let first = line_done session store (first_line (drop reader.at reader.text.now)) in
-      rw (a.text, a.next, g.session, g.store, g.line.len, next session store reader.text.now reader.at a.left)
-      (record { session = refl; store = refl; output = sym (length-append (printed first.answer) _) })
-
-  pub further : (reader.at < r.reader.at) × (r.reader.at ≤ length r.reader.text.now)
-  further = rw (a.text, a.next) (the_lines.on reader.text.now reader.at a.left)
-
-  pub same_room : (length left ≡ length out) × (r.reply.len ≤ length out)
-  same_room = let p = a.line.line in (rw p.output (length_put out 0 _), rw p.len p.room)
-
--- at the end of what is read of a text
-pub at_last : (begun : Session) (first input : List ℕ) (session : Session) (store text : List ℕ) (at printed : ℕ) → text ≡ take MOST_TEXT input → length text ≤ at
-    → Ahead (lines_done begun first (lines_of (take MOST_TEXT input))) (lines_done session store (lines_of (drop at text))) printed
-    → let all = text_done begun first input in (session ≡ all.session) × (printed ≡ length all.output) × (store ≡ all.store)
-at_last begun first input session store text at printed e h a =
-    let end : Ahead (text_done begun first input) (record { session = session; store = store; output = [] }) printed = rw (← none session store text at h) a in
-    (end.session, omega (arith, end.output), end.store)

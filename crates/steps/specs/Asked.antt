@@ -7,7 +7,7 @@ use Rattle.memory.specs.Meaning.{Operation, write, release, read}
 use Rattle.frames.specs.Frame.{Frame}
 use Rattle.frames.specs.Frame as frame
 
--- A cycle has buffers of the size that its reads need, so 16 never applies.
+-- A cycle has buffers of the sizes that its reads need.
 abbrev pub cycle_of : (list : List ℕ) → Shape → Operation
 cycle_of list shape = let count = length (reads_in list) in read list (zeros (count * shape.p)) (zeros (count * 2))
 

@@ -1,12 +1,10 @@
 -- A session: what each line makes of the memory and answers, and what a whole text answers.
-use Rattle.std.specs.Prelude.{List, [], ◌∷◌, ◌++◌, ℕ, ◌*◌, nat_le, length, take, drop, Option, Some, None, Err}
+use Rattle.std.specs.Prelude.{List, [], ◌∷◌, ◌++◌, ℕ, nat_le, length, take, drop, Option, Some, None, Err}
 use Rattle.refusals.specs.declared.Refusal.{Refusal}
-use Rattle.refusals.specs.declared.Reason.TheVariants as reason
-use Rattle.refusals.specs.Verdict.{Verdict, Accepted, check, ◌then◌}
+use Rattle.refusals.specs.Verdict.{Verdict, Accepted, refusal_of, check, ◌then◌}
 use Rattle.cells.specs.Xor.{zeros}
-use Rattle.simplex.specs.Shape.{limit_of}
 use Rattle.layout.specs.declared.Shape.{Shape}
-use Rattle.layout.specs.Shape.{banks, store_size}
+use Rattle.layout.specs.Shape.{shape_refusal, store_size}
 use Rattle.memory.specs.declared.State.{State}
 use Rattle.memory.specs.Operations.{set_up_of}
 use Rattle.memory.specs.Meaning.{Operation, Memory}
@@ -48,16 +46,15 @@ unless_refused (Err refusal) session store done = refused_with session store ref
 
 -- 1 to 4; then 20, its store passes 16,384 bytes.
 unfoldable pub set_up_refusal : Shape → Verdict
-set_up_refusal shape = (set_up_of shape).verdict then check reason.StoreTooLarge 0 (nat_le (store_size shape) MOST_STORE)
+set_up_refusal shape = shape_refusal shape then check 20 0 (nat_le (store_size shape) MOST_STORE)
 
--- A memory set up afresh, with a zeroed store. It answers the total of banks and the most reads of a group. Refused, it keeps the
--- earlier memory.
+-- A memory set up afresh, with a zeroed store, which answers what a set-up answers. Refused, the earlier memory is kept.
 abbrev pub set_up_done : Session → (store : List ℕ) → Shape → Done
 set_up_done session store shape =
     unless_refused (set_up_refusal shape) session store (record {
       session = Running (set_up_of shape).state;
       store = zeros (length store);
-      said = 0 ∷ (shape.m * banks shape) ∷ limit_of shape.k ∷ [];
+      said = said [] (set_up_of shape).answer;
     })
 
 -- ---- an operation of the memory
@@ -71,7 +68,7 @@ behind state store = drop (store_size state.shape) store
 
 -- 19: there is no memory.
 abbrev pub no_memory : Refusal
-no_memory = record { reason = reason.NoMemory; place = 0 }
+no_memory = refusal_of 19 0
 
 -- 19, before any accepted 01; else what the memory does.
 abbrev pub operation_done : Session → (store : List ℕ) → (Shape → Operation) → Done
@@ -89,7 +86,7 @@ operation_done (Running state) store operation =
 
 -- 18: there is no frame.
 abbrev pub unknown_frame : Refusal
-unknown_frame = record { reason = reason.UnknownFrame; place = 0 }
+unknown_frame = refusal_of 18 0
 
 -- What is done of what a frame asks.
 abbrev pub done_by : Session → (store : List ℕ) → Asked → Done

@@ -2,10 +2,11 @@
 #![tactic(auto)]
 
 ghost use Rattle.std.specs.Prelude.{◌≡◌, List, ◌∷◌, ℕ, ◌*◌, ◌≤◌, ◌<◌, min, length};
+ghost use Rattle.lines.specs.Reader.{left_of};
 ghost use Rattle.frames.specs.Frame.{set_up, write, release, read, shown, first_byte};
 ghost use Rattle.frames.specs.Printing.{said, Fits, Prints};
 ghost use Rattle.steps.specs.Session.{Session, Running, set_up_refusal, frame_done, line_done};
-ghost use Rattle.steps.specs.Laws.{TheSession};
+ghost use Rattle.steps.specs.Laws.{TheRefusedLines, TheAnswers, TheSession};
 ghost use Rattle.steps.specs.Steps.{Gives, Answers};
 ghost use Rattle.steps.specs.Parts.{lent_size, FewReads, Tries};
 
@@ -41,10 +42,12 @@ pub struct Next<'a> {
     pub reader: Reader<'a>,
 }
 
-// Carries the laws of a session, and how much of a text it reads. It does nothing.
-#[tactic(auto, using(crate::proofs::Sessions::the_session))]
+// Carries the laws of a session, of its refused lines and of its answers, and how much of a text it reads. It does nothing.
+#[tactic(auto, using(crate::proofs::Sessions::the_session, crate::proofs::Refused::the_refused_lines, crate::proofs::Told::the_answers))]
 pub fn the_session()
     ensures session { TheSession }
+    ensures refused { TheRefusedLines }
+    ensures answers { TheAnswers }
     ensures text { MOST_TEXT ≡ 32768 }
 {}
 
@@ -105,16 +108,9 @@ fn try_set_up(
 {
     judge_set_up(shape)?;
     cells::clear(store);
-    let group = simplex::group_of(shape.k);
-    let first = Frame::SetUp(shape).first_byte();
-    // `as` is proved to lose nothing, and no `From` narrows.
-    let bytes = [first, 0, (shape.m * group.banks) as u8, group.limit as u8];
-    let len = frames::print_line(&bytes, out);
-    let made = State::set_up(shape);
-    Ok(Reply {
-        session: Some(made.state),
-        len,
-    })
+    let outcome = State::set_up(shape);
+    let frame = Frame::SetUp(shape);
+    Ok(answer(Some(outcome.state), frame, outcome.answer, &[], out))
 }
 
 // Frame 02.
@@ -247,11 +243,9 @@ pub fn answer_next<'a>(
     store: &mut [u8; MOST_STORE],
     out: &mut [u8; MOST_OUTPUT],
 ) -> Option<Next<'a>>
-    ensures { Answers session store.old reader.entry out.old result store.new out.new }
+    ensures { Answers session store.old (left_of reader.entry) out.old result store.new out.new }
 {
-    let line = reader.line()?;
-    let Reader { text, at } = reader;
-    let reply = step(session, &text[at..line.end], store, out);
-    let reader = reader.moved(line.next);
+    let (line, reader) = reader.next_line()?;
+    let reply = step(session, line, store, out);
     Some(Next { reply, reader })
 }

@@ -13,8 +13,8 @@ use Rattle.audit.specs.Plan.{is_plan, IsPlan}
 use Rattle.audit.specs.Audit.{all_zero}
 use Rattle.audit.proofs.Reading.{sound}
 use Rattle.audit.proofs.Requests.{zero_all}
-use Rattle.table.specs.declared.rows.TheConstants.{ROWS, TRIE}
-use Rattle.table.specs.Table.{SortedRequest, walk, row_index, row_of, row_pairs}
+use Rattle.table.specs.declared.rows.TheConstants.{TRIE}
+use Rattle.table.specs.Table.{SortedRequest, walk, row_index, rows_of, row_of}
 use Rattle.table.proofs.Sweep.{below_at, everywhere, everywhere_at}
 use Rattle.table.proofs.Tested.{inside, row_fits, test_of, test}
 
@@ -36,29 +36,29 @@ module _ (K : ℕ) (counts : List ℕ) (s : SortedRequest K counts) where
       (subst (λ (t : ℕ). T (everywhere (λ (c : List ℕ). not (all_zero (drop K c)) || row_fits K c) (length counts) (limit_of K) t)) (sym s.full)
       (subst (λ (n : ℕ). T (everywhere (λ (c : List ℕ). not (all_zero (drop K c)) || row_fits K c) n (limit_of K) (limit_of K))) (sym s.request.size) tested)))
 
-  pub within : T (inside counts (get_or TRIE (K - LEAST_SYMBOLS) 0) (K - 2))
+  pub within : T (inside K counts (get_or TRIE (K - LEAST_SYMBOLS) 0) (K - 2))
   unfolding row_fits
   within =
-      and_left (inside counts (get_or TRIE (K - LEAST_SYMBOLS) 0) (K - 2)) (is_plan (is_bank K) counts (row_pairs (row_of K counts) counts)) fits
+      and_left (inside K counts (get_or TRIE (K - LEAST_SYMBOLS) 0) (K - 2)) (is_plan (is_bank K) counts (row_of K counts)) fits
 
-  is_plan_lem : T (is_plan (is_bank K) counts (row_pairs (row_of K counts) counts))
+  is_plan_lem : T (is_plan (is_bank K) counts (row_of K counts))
   unfolding row_fits
   is_plan_lem =
-      and_right (inside counts (get_or TRIE (K - LEAST_SYMBOLS) 0) (K - 2)) (is_plan (is_bank K) counts (row_pairs (row_of K counts) counts)) fits
+      and_right (inside K counts (get_or TRIE (K - LEAST_SYMBOLS) 0) (K - 2)) (is_plan (is_bank K) counts (row_of K counts)) fits
 
 holds : (b : Bool) → T b → b ≡ true
 holds true t = refl
 holds false t = absurd t
 
 -- a walk that stays within the trie ends within the rows
-ends : (counts : List ℕ) (at n : ℕ) → T (inside counts at n) → walk counts at n + get_or counts 1 0 < length ROWS
-ends counts at zero t = ltb→lt (at + get_or counts 1 0) (length ROWS) t
-ends counts at (suc n) t =
+ends : (K : ℕ) (counts : List ℕ) (at n : ℕ) → T (inside K counts at n) → walk counts at n + get_or counts 1 0 < length (rows_of K)
+ends K counts at zero t = ltb→lt (at + get_or counts 1 0) (length (rows_of K)) t
+ends K counts at (suc n) t =
     let next : ℕ = at + get_or counts (suc (suc n)) 0 in
-    ends counts (get_or TRIE next 0) n (and_right (ltb next (length TRIE)) (inside counts (get_or TRIE next 0) n) t)
+    ends K counts (get_or TRIE next 0) n (and_right (ltb next (length TRIE)) (inside K counts (get_or TRIE next 0) n) t)
 
-pub found : (K : ℕ) (counts : List ℕ) → SortedRequest K counts → row_index K counts < length ROWS
-found K counts s = ends counts (get_or TRIE (K - LEAST_SYMBOLS) 0) (K - 2) (within K counts s)
+pub found : (K : ℕ) (counts : List ℕ) → SortedRequest K counts → row_index K counts < length (rows_of K)
+found K counts s = ends K counts (get_or TRIE (K - LEAST_SYMBOLS) 0) (K - 2) (within K counts s)
 
-pub valid : (K : ℕ) (counts : List ℕ) → SortedRequest K counts → IsPlan (is_bank K) counts (row_pairs (row_of K counts) counts)
-valid K counts s = sound (is_bank K) counts (row_pairs (row_of K counts) counts) (holds (is_plan (is_bank K) counts (row_pairs (row_of K counts) counts)) (is_plan_lem K counts s))
+pub valid : (K : ℕ) (counts : List ℕ) → SortedRequest K counts → IsPlan (is_bank K) counts (row_of K counts)
+valid K counts s = sound (is_bank K) counts (row_of K counts) (holds (is_plan (is_bank K) counts (row_of K counts)) (is_plan_lem K counts s))

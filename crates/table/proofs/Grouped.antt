@@ -8,8 +8,9 @@ use lib.ListN.{length, get_or, length-append}
 use Rattle.std.specs.List.{range_with_len, sum}
 use Rattle.std.proofs.lemmas.List.FromFn.{length-map-range_with_len, get_or-map-range_with_len}
 use Rattle.simplex.specs.Limit.{start}
-use Rattle.audit.specs.Plan.{Pair, no_pair, pair_at}
-use Rattle.table.specs.Grouped.{grouped}
+use Rattle.audit.specs.declared.Pair.{Pair}
+use Rattle.audit.specs.Plan.{no_pair, pair_at}
+use Rattle.table.specs.Renaming.{grouped}
 use Rattle.simplex.proofs.Contained.{sum_cons, start_cons}
 use Rattle.audit.proofs.Places.{in_first, in_rest}
 

@@ -10,7 +10,8 @@ use Rattle.std.proofs.lemmas.List.{length_push}
 use native.Mathlib.Numerals.{add-one}
 use Rattle.simplex.specs.Shape.{is_bank}
 use Rattle.simplex.specs.Limit.{reads_from}
-use Rattle.audit.specs.Plan.{Pair, serves}
+use Rattle.audit.specs.declared.Pair.{Pair}
+use Rattle.audit.specs.Plan.{serves}
 use Rattle.audit.specs.Audit.{pairs_of}
 use Rattle.audit.proofs.Pairs.{as_served, first_below, second_below, length_pairs, zipped, zipped_all}
 use Rattle.audit.proofs.Walk.{Turn, all_passed, not_served, first_met, second_met, one_more}

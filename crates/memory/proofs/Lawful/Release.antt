@@ -1,27 +1,37 @@
 -- A release: accepted, its row is empty.
 use mathlib.Core.Path.{◌≡◌, refl, sym, ◌∙◌}
-use mathlib.Core.Bool.{true, false, cond}
-use Prim.Native.Nat.{ℕ, ◌<◌}
+use mathlib.Core.Bool.{false, cond}
+use Prim.Native.Nat.{ℕ}
 use native.Mathlib.Omega.{arith}
-use borrow.Author.Tests.{not-true}
+use borrow.Author.Tests.{not-true, lt-ltb, le-ltb}
 use Rattle.refusals.specs.Verdict.{Accepted}
-use Rattle.layout.specs.Occupancy.{is_full}
 use Rattle.memory.specs.declared.State.{State}
-use Rattle.memory.specs.State.{sound, row_emptied}
+use Rattle.memory.specs.State.{Sound, row_emptied}
 use Rattle.memory.specs.Operations.{release_checks, release_refusal}
 use Rattle.memory.specs.Meaning.{release, meaning_of}
-use Rattle.memory.proofs.States.{tests, emptied_sound, one_fewer}
+use Rattle.memory.specs.Laws.{RightRelease, WrongRelease}
+use Rattle.memory.proofs.States.{tests, sound_words, words_sound, emptied_sound, one_fewer}
 use Rattle.memory.specs.History.{RowAgrees}
 use Rattle.memory.proofs.Lawful.{Lawful, empty_row, at_row, unlent, tests_state, same, lawful_by}
 
-pub record Releasable (state : State) (row : ℕ) : Type 0 where
-  pub sound_state : sound state ≡ true
-  pub below : row < state.shape.g
-  pub full : is_full state.rows row ≡ true
+-- ---- when it is accepted, and what refuses it
 
-pub released_facts : (state : State) (row : ℕ) → release_refusal state row ≡ Accepted → Releasable state row
+pub release_facts : (state : State) (row : ℕ) → release_refusal state row ≡ Accepted → RightRelease state row
 unfolding release_refusal
-released_facts state row e = search tests
+release_facts state row e = search (tests, sound_words)
+
+pub facts_release : (state : State) (row : ℕ) → RightRelease state row → release_refusal state row ≡ Accepted
+unfolding release_refusal
+facts_release state row w = rw (words_sound state w.sound, lt-ltb _ _ w.below, w.full)
+
+pub wrong_release : (state : State) (row : ℕ) → Sound state → WrongRelease state row (release_refusal state row)
+unfolding release_refusal
+wrong_release state row w = record {
+  seven = λ e. rw (words_sound state w, le-ltb _ _ e);
+  nine = λ r e. rw (words_sound state w, lt-ltb _ _ r, not-true _ e);
+}
+
+-- ---- what it leaves
 
 pub release_lawful : (row : ℕ) → Lawful (meaning_of (release row))
 unfolding release_refusal
@@ -32,7 +42,7 @@ release_lawful row =
       store = λ memory. same memory.store _;
       verdict = λ shape known. refl;
       accepted = λ known memory k e.
-          let w = released_facts memory.state row e in
+          let w = release_facts memory.state row e in
           let fewer = one_fewer memory.state k.sound row w.below w.full in
           record {
             count = omega (arith, fewer.count);

@@ -13,7 +13,7 @@ use Rattle.memory.specs.State.{rows_emptied}
 use Rattle.memory.specs.Operations.{release_set_checks, release_set_refusal}
 use Rattle.memory.specs.Meaning.{release_set, Memory, meaning_of}
 use Rattle.memory.proofs.States.{none_past, set_sound, set_count}
-use Rattle.memory.proofs.Emptying.{set_released_facts}
+use Rattle.memory.proofs.Emptying.{set_facts}
 use Rattle.memory.specs.History.{RowAgrees}
 use Rattle.memory.proofs.Lawful.{Lawful, unlent, tests_state, same, lawful_by}
 
@@ -36,7 +36,7 @@ release_set_lawful set =
       store = λ memory. same memory.store _;
       verdict = λ shape known. refl;
       accepted = λ known memory k e. record {
-        count = set_count memory.state k.sound set (set_released_facts memory.state set e).full ∙ omega arith;
+        count = set_count memory.state k.sound set (set_facts memory.state set e).full ∙ omega arith;
         agrees = record {
           of_shape = refl;
           sound = set_sound memory.state k.sound set;

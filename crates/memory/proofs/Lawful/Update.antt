@@ -4,7 +4,7 @@ use mathlib.Core.Bool.{true, cond}
 use mathlib.Core.List.{List}
 use Prim.Native.Nat.{ℕ, ◌+◌, ◌*◌}
 use native.Mathlib.Omega.{arith}
-use borrow.Author.Tests.{not-true, eq-eqb, ne_eqb, lt-ltb, le-ltb}
+use borrow.Author.Tests.{eq-eqb, ne_eqb, lt-ltb}
 use lib.ListN.{length}
 use Rattle.refusals.specs.Verdict.{Accepted}
 use Rattle.cells.proofs.Cells.{length_put}
@@ -13,6 +13,8 @@ use Rattle.layout.specs.declared.PacketName.{PacketName}
 use Rattle.rows.specs.Rows.{packets_in, group_written, packet_updated, edited}
 use Rattle.rows.specs.Laws.{Edited}
 use Rattle.rows.proofs.Updating.{generation_edited, store_updated, cells_kept, fresh, row_edited}
+use Rattle.layout.specs.Occupancy.{is_full}
+use Rattle.reads.proofs.Wrong.{wrong_packet, may_read}
 use Rattle.memory.specs.declared.State.{State}
 use Rattle.memory.specs.State.{Sound}
 use Rattle.memory.specs.Operations.{update_checks, update_refusal, update_store}
@@ -44,11 +46,13 @@ pub wrong_update : (state : State) (size : ℕ) (name : PacketName) (len : ℕ) 
 unfolding update_refusal
 wrong_update state size name len w = record {
   six = λ e. rw (words_sound state w, ne_eqb _ _ e);
-  seven = λ s e. rw (words_sound state w, eq-eqb _ _ s, le-ltb _ _ e);
-  fourteen = λ s r e. rw (words_sound state w, eq-eqb _ _ s, lt-ltb _ _ r, le-ltb _ _ e);
-  fifteen = λ s r g e. rw (words_sound state w, eq-eqb _ _ s, lt-ltb _ _ r, lt-ltb _ _ g, le-ltb _ _ e);
-  nine = λ s p e. rw (words_sound state w, eq-eqb _ _ s, lt-ltb _ _ p.row, lt-ltb _ _ p.group, lt-ltb _ _ p.symbol, not-true _ e);
-  ten = λ s p f e. rw (words_sound state w, eq-eqb _ _ s, lt-ltb _ _ p.row, lt-ltb _ _ p.group, lt-ltb _ _ p.symbol, f, ne_eqb _ _ e);
+  packet = λ s. let p = wrong_packet state.shape (is_full state.rows) 0 name in record {
+    seven = λ e. rw (words_sound state w, eq-eqb _ _ s, p.seven e);
+    fourteen = λ r e. rw (words_sound state w, eq-eqb _ _ s, p.fourteen r e);
+    fifteen = λ r g e. rw (words_sound state w, eq-eqb _ _ s, p.fifteen r g e);
+    nine = λ t e. rw (words_sound state w, eq-eqb _ _ s, p.nine t e);
+  };
+  ten = λ s m e. rw (words_sound state w, eq-eqb _ _ s, may_read state.shape (is_full state.rows) 0 name m, ne_eqb _ _ e);
 }
 
 -- ---- what it leaves

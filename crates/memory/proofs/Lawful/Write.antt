@@ -2,32 +2,42 @@
 use mathlib.Core.Path.{◌≡◌, refl, ◌∙◌}
 use mathlib.Core.Bool.{true, cond, not}
 use mathlib.Core.List.{List}
-use Prim.Native.Nat.{ℕ, ◌<◌}
+use Prim.Native.Nat.{ℕ}
 use native.Mathlib.Omega.{arith}
 use lib.ListN.{length}
+use borrow.Author.Tests.{eq-eqb, ne_eqb, lt-ltb, le-ltb}
 use Rattle.refusals.specs.Verdict.{Accepted}
-use Rattle.layout.specs.Shape.{store_size, generation_size}
-use Rattle.layout.specs.Occupancy.{is_empty}
 use Rattle.rows.specs.Rows.{row_written}
 use Rattle.rows.proofs.Writing.{row_written_lem, other_rows}
 use Rattle.memory.specs.declared.State.{State}
-use Rattle.memory.specs.State.{sound, row_filled}
+use Rattle.memory.specs.State.{Sound, row_filled}
 use Rattle.memory.specs.Operations.{write_checks, write_refusal}
 use Rattle.memory.specs.Meaning.{write, meaning_of}
-use Rattle.memory.proofs.States.{tests, filled_sound, one_more}
+use Rattle.memory.specs.Laws.{RightWrite, WrongWrite}
+use Rattle.memory.proofs.States.{tests, sound_words, words_sound, filled_sound, one_more}
 use Rattle.memory.specs.History.{RowAgrees}
 use Rattle.memory.proofs.Lawful.{Lawful, at_row, lent, tests_store, lawful_by}
 
-pub record Writable (state : State) (size row len : ℕ) : Type 0 where
-  pub sound_state : sound state ≡ true
-  pub store : size ≡ store_size state.shape
-  pub below : row < state.shape.g
-  pub empty : is_empty state.rows row ≡ true
-  pub whole : len ≡ generation_size state.shape
+-- ---- when it is accepted, and what refuses it
 
-pub written_facts : (state : State) (size row len : ℕ) → write_refusal state size row len ≡ Accepted → Writable state size row len
+pub write_facts : (state : State) (size row len : ℕ) → write_refusal state size row len ≡ Accepted → RightWrite state size row len
 unfolding write_refusal
-written_facts state size row len e = search tests
+write_facts state size row len e = search (tests, sound_words)
+
+pub facts_write : (state : State) (size row len : ℕ) → RightWrite state size row len → write_refusal state size row len ≡ Accepted
+unfolding write_refusal
+facts_write state size row len w = rw (words_sound state w.sound, eq-eqb _ _ w.store, lt-ltb _ _ w.below, w.empty, eq-eqb _ _ w.whole)
+
+pub wrong_write : (state : State) (size row len : ℕ) → Sound state → WrongWrite state size row len (write_refusal state size row len)
+unfolding write_refusal
+wrong_write state size row len w = record {
+  six = λ e. rw (words_sound state w, ne_eqb _ _ e);
+  seven = λ s e. rw (words_sound state w, eq-eqb _ _ s, le-ltb _ _ e);
+  eight = λ s r e. rw (words_sound state w, eq-eqb _ _ s, lt-ltb _ _ r, e);
+  ten = λ s r f e. rw (words_sound state w, eq-eqb _ _ s, lt-ltb _ _ r, f, ne_eqb _ _ e);
+}
+
+-- ---- what it leaves
 
 pub write_lawful : (row : ℕ) (generation : List ℕ) → Lawful (meaning_of (write row generation))
 unfolding write_refusal
@@ -40,7 +50,7 @@ write_lawful row generation =
       verdict = λ shape known. refl;
       accepted = λ known memory k e.
           let shape = memory.state.shape in
-          let w = written_facts memory.state (length memory.store) row (length generation) e in
+          let w = write_facts memory.state (length memory.store) row (length generation) e in
           let put = row_written_lem shape row generation memory.store w.below k.size w.whole in
           let more = one_more memory.state k.sound row w.below w.empty in
           record {

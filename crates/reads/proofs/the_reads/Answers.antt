@@ -8,6 +8,9 @@ use Rattle.layout.specs.declared.Shape.{Shape}
 use Rattle.reads.specs.Refusals.{group_refusal, list_refusal}
 use Rattle.reads.proofs.Counting.{reads_many}
 use Rattle.reads.proofs.Once.{at_most_once, none_twice}
+use Rattle.reads.proofs.Wrong.{wrong_packet, wrong_list}
+use Rattle.reads.proofs.Accepted.{list_right, right_list}
+use Rattle.reads.proofs.Cutting.{many, cut_read}
 use Rattle.reads.proofs.the_reads.Goals as goal
 
 empty : (shape : Shape) (full : ℕ → Bool) → list_refusal shape full [] 0 0 ≡ Accepted
@@ -19,4 +22,9 @@ returns c = record {
   counted = reads_many;
   collisions = λ reads group small. (at_most_once reads group, none_twice reads group small);
   empty = empty;
+  packet = wrong_packet;
+  list = wrong_list;
+  accepted = λ shape full list out schedule. (list_right shape full list out schedule, right_list shape full list out schedule);
+  many = many;
+  cut = cut_read;
 }

@@ -1,5 +1,5 @@
 -- Each turn puts the group whose packets come.
-use Rattle.std.proofs.Common.{arith, sym, ◌∙◌}
+use Rattle.std.proofs.Common.{arith, ◌∙◌}
 use Rattle.rows.proofs.Groups.{fillable}
 use Rattle.rows.proofs.Writing.{group_spaced}
 use Rattle.rows.proofs.Chunks.{turn, all_put}
@@ -8,7 +8,8 @@ use Rattle.rows.proofs.write_row.Goals as goal
 pub loop-group-preserved : goal.loop-group-preserved
 loop-group-preserved c =
     let t = turn c.args.geometry.in_range c.requires.generation_len c.loop-group.invariant c.in-Some.group c.in-Some.packets c.next.new.self (c.in-Some.ensures {u = tt}).steps in
-    t.put _ (c.fill_group.ensures ∙ rw c.spacing_of.ensures (sym (group_spaced c.args.geometry.shape c.in-Some.group c.args.row _ c.loop-group.store)))
+    t.put _
+    (group_spaced c.args.geometry.shape c.in-Some.group c.args.row _ c.loop-group.store _ (rw c.spacing_of.ensures at c.fill_group.ensures))
 
 pub spacing_of-requires : goal.spacing_of-requires
 spacing_of-requires c =

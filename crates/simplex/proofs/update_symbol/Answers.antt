@@ -11,7 +11,8 @@ use Rattle.simplex.specs.Banks.{spaced, Room, bank_set}
 use Rattle.simplex.specs.Updating.{bank_updated, Updatable}
 use Rattle.simplex.proofs.Tables.{banks_of_lem}
 use Rattle.simplex.proofs.Setting.{spaced_room}
-use Rattle.simplex.proofs.Updating.{systematic_bank, Turned, turned_first, turned_more}
+use Rattle.simplex.proofs.Running.{systematic_bank}
+use Rattle.simplex.proofs.Updating.{Turned, turned_first, turned_more}
 use Rattle.simplex.proofs.update_symbol.Goals as goal
 use Rattle.simplex.proofs.update_symbol.Goals.{else-loop-bank-test, then-loop-bank-test+else-bank-bank-end, then-is_marked, else-is_marked}
 
@@ -44,7 +45,7 @@ module _ {k P i at step : ℕ} {store : List ℕ} (u : Updatable k P i at step s
 module _ {k i at step : ℕ} {packet store : List ℕ} (u : Updatable k (length packet) i at step store) (b : ℕ) (now next : List ℕ)
     (behind : 2 ^ i < b) (most : b ≤ banks_of k) (same : length now ≡ length store)
     (before : Turned (length packet) i packet (spaced at step) store (b - 1) now) where
-  turned : next ≡ bank_set (λ b. has_symbol b i) (bank_updated (length packet) i packet (spaced at step) now) (spaced at step) b now
+  turned : next ≡ bank_set (λ b. has_symbol b i) (bank_updated (length packet) i packet (spaced at step)) (spaced at step) b now
       → Turned (length packet) i packet (spaced at step) store b next
   turned is =
       rw is

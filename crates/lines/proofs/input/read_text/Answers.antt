@@ -1,17 +1,10 @@
 -- What a turn reads stands behind what was read before it, and at the end all has been read that fits.
-use Rattle.std.proofs.Common.{◌≡◌, ℕ, ◌+◌, List, [], ◌∷◌, ◌++◌, Option, None, Some, IfSome, option_map, length, take, drop, refl, sym, ap, ◌∙◌, arith, rules, append_assoc, append-nil, length-append, length-take, take_at, drop_at, drop-drop}
+use Rattle.std.proofs.Common.{◌≡◌, ℕ, ◌+◌, List, ◌++◌, Option, None, Some, IfSome, option_map, length, take, drop, refl, sym, ◌∙◌, arith, rules, append_assoc, append-nil, length-append, length-take, take_at, drop_at, drop-drop}
 use borrow.Rule.Slice.PartMut.{put_mid}
 use Rattle.std.proofs.KnownBytes.{Consumes-trans, Consumes-whole}
-use Rattle.cells.specs.Cell.{put}
 use Rattle.lines.specs.Input.{Fills}
+use Rattle.lines.proofs.Filled.{put_front}
 use Rattle.lines.proofs.input.read_text.Goals as goal
-
--- what is put at the front of s: as much as there is room for, and then what that leaves of s
-put_front : (s c : List ℕ) → let front = take (length s) c in front ++ drop (length front) s ≡ put s 0 c
-unfolding put
-put_front [] c = refl
-put_front (x ∷ s) [] = refl
-put_front (x ∷ s) (y ∷ c) = ap (λ (r : List ℕ). y ∷ r) (put_front s c)
 
 -- what is read next goes behind what was read
 read_next : (s read next t : List ℕ) (at n k : ℕ) → at ≡ length read → k ≡ n → t ≡ read ++ drop at s → put_mid at k t next ≡ (read ++ next) ++ drop (at + n) s

@@ -1,0 +1,2 @@
+-- The definitions of the crate: what is written.
+pub mod Written
