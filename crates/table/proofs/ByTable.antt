@@ -2,9 +2,10 @@
 use mathlib.Core.Path.{◌≡◌, refl, sym, ap, ap₂, ◌∙◌}
 use mathlib.Core.Bool.{true}
 use mathlib.Core.List.{List}
-use Prim.Native.Nat.{ℕ, suc, ◌+◌, ◌^◌, ◌≤◌, ◌<◌}
+use Prim.Native.Nat.{ℕ, suc, ◌+◌, ◌*◌, ◌^◌, ◌≤◌, ◌<◌}
 use native.Mathlib.Omega.{arith, by_contra}
-use lib.ListN.{length, get_or}
+use lib.ListN.{length, get_or, take, length-take}
+use lib.Seq.{get_or-take}
 use lib.Pow.{pow_mono, lt_of_le_ones}
 use Rattle.simplex.specs.declared.TheConstants.{MOST_SYMBOLS, MOST_PAIRS}
 use Rattle.simplex.specs.Limit.{start}
@@ -56,6 +57,10 @@ module _ (r : Request) where
   pub few_pairs : r.total ≤ MOST_PAIRS
   few_pairs = omega (arith, r.all, w.total_most, most_pairs_lem K r.counts w)
 
+  -- a place of the array that is gone through is that of a read
+  pub of_read : (places : List ℕ) (n : ℕ) → length places ≡ 2 * MOST_PAIRS → n < length (take r.total places) → n < r.total
+  of_read places n long inside = omega (arith, inside, length-take r.total places, few_pairs)
+
   module _ (sorted : List ℕ) (is_sorted : sorted ≡ sorted_of K r.counts) (row : List Pair) (found : row ≡ row_of K sorted) (n : ℕ) (h : n < r.total) where
     read : Located r.counts n
     read = locate r.counts n (omega (arith, r.all))
@@ -80,11 +85,11 @@ module _ (r : Request) where
     unfolding place
     serves = row_plan.in_order (rank r.counts read.symbol) read.nth asked
 
-    module _ (places : List ℕ) (placed : Placed r.counts sorted MOST_SYMBOLS places) (at : ℕ) (is : at ≡ get_or places n 0) where
+    module _ (places : List ℕ) (placed : Placed r.counts sorted MOST_SYMBOLS places) (at : ℕ) (is : at ≡ get_or (take r.total places) n 0) where
       is_place : at ≡ place
       unfolding place
       is_place =
-          is ∙ ap (λ (m : ℕ). get_or places m 0) read.place
+          is ∙ get_or-take r.total places n 0 h ∙ ap (λ (m : ℕ). get_or places m 0) read.place
           ∙ placed.at read.symbol read.nth (omega (arith, in_group, w.request.symbols.most)) read.nth_less
 
       pub in_row : at < length row
