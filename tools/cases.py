@@ -1,9 +1,11 @@
 #!/usr/bin/env python3
-"""Judges what the program cases prints, with nothing of the planner in it: each plan by the words of the rules, each refusal by its order, the
-counts of the exhaustive part by binomials, and each read cycle by its list, the packets that were written and the words of the rules.
+"""Judges what the program cases prints, by the rules alone: there is no planner in here. Each plan is tried by the rules of a plan, each refusal
+by its order, and each line that is no request by what is wrong with it; of the self-test the counts of every request by binomials, and each
+read cycle by its list, the packets that were written and the rules.
 
-    python3 tools/cases.py crates/cases/stdin < crates/cases/stdout
+    python3 tools/cases.py crates/cases/stdin --self-test < crates/cases/stdout
 """
+import argparse
 import re
 import sys
 from math import comb
@@ -11,6 +13,9 @@ from math import comb
 MOST_SYMBOLS = 5
 EVERY_K = range(2, MOST_SYMBOLS + 1)
 GROUPS, ROWS, BYTES, UNTOUCHED = 8, 4, 3, 238
+
+# The bytes of a text of requests that are read, and the largest number.
+MOST_TEXT, LARGEST = 32768, 2 ** 64 - 1
 
 # The lines of a cycle. Of one K there are a head, four cycles, the answer to a release, on this line, and one cycle more.
 CYCLE_LINES = 4
@@ -84,14 +89,60 @@ def tally(K):
     )
 
 
-def is_right(request, line):
+# A byte as it is printed: itself, or what a string in Rust writes for it.
+def escaped(byte):
+    named = {9: r"\t", 13: r"\r", 34: r"\"", 39: r"\'", 92: r"\\"}
+    return named.get(byte, chr(byte) if 32 <= byte < 127 else f"\\x{byte:02x}")
+
+
+# What is wrong with a text that is to be a number; nothing where it is one.
+def fault(text):
+    foreign = re.search(rb"[^0-9]", text)
+    digits = text.lstrip(b"0")
+    if not text:
+        return "is empty"
+    if foreign:
+        return f"has a character that is no digit: {escaped(foreign[0][0])}"
+    if len(digits) > len(str(LARGEST)) or int(digits or b"0") > LARGEST:
+        return f"is above {LARGEST}"
+    return None
+
+
+# The six numbers of a line; or, of a line that is no request, what is wrong with it.
+def request_of(line):
+    texts = line.split(b" ")
+    for n, text in enumerate(texts, 1):
+        if fault(text):
+            return None, f"number {n} {fault(text)}"
+    if len(texts) != 1 + MOST_SYMBOLS:
+        return None, f"six numbers are needed, K and five counts, and these are {len(texts)}"
+    return [int(text.lstrip(b"0") or b"0") for text in texts], None
+
+
+# The lines of a text that are answered, and whether it is longer than what is read: then the line that the end of that cuts is not one of
+# them. A line feed at the very end starts no further line.
+def lines_of(text):
+    lines = text[:MOST_TEXT].split(b"\n")
+    is_cut = len(text) > MOST_TEXT
+    if is_cut or not lines[-1]:
+        lines.pop()
+    return lines, is_cut
+
+
+def is_answer(request, line):
     K, counts = request[0], request[1:]
     head = f"K {K}, counts {' '.join(map(str, counts))}:"
     number = refusal(K, counts)
     if number:
         return line == f"{head} refused {number}, place 0"
-    pairs = [(int(a), int(b)) for a, b in re.findall(r"\((\d+),(\d+)\)", line)]
+    pairs = [(int(a), int(b)) for a, b in re.findall(r"\(([0-9]{1,2}),([0-9]{1,2})\)", line)]
     return line == head + "".join(f" ({a},{b})" for a, b in pairs) + "; the audit says yes" and is_plan(K, counts, pairs)
+
+
+# Whether this is the answer to the nth line of a text.
+def is_right(n, text, line):
+    request, wrong = request_of(text)
+    return line == f"line {n}: {wrong}" if wrong else is_answer(request, line)
 
 
 # A packet of the memory that the cycles read.
@@ -141,8 +192,8 @@ def is_cycle(K, full, reads, lines):
     shown = [re.fullmatch(name + " ((?:[0-9a-f]{2})*)", line) for name, line in zip(["reads", "packets", "schedule"], lines[1:])]
     if not all(shown):
         return False
-    asked, packets, schedule = [list(bytes.fromhex(match[1])) for match in shown]
-    if lines[0] != f"cycle of {len(reads)} reads: {answer}" or asked != [byte for read in reads for byte in read]:
+    listed, packets, schedule = [list(bytes.fromhex(match[1])) for match in shown]
+    if lines[0] != f"cycle of {len(reads)} reads: {answer}" or listed != [byte for read in reads for byte in read]:
         return False
     if refused:
         return packets == [UNTOUCHED] * (BYTES * len(reads)) and schedule == [UNTOUCHED] * (2 * len(reads))
@@ -189,8 +240,8 @@ def small_lines():
     for answer in ["refused 5, place 0", "refused 6, place 0", "refused 7, place 0", "refused 8, place 0", "full rows 1", "refused 10, place 0"]:
         lines += [answer] if answer.startswith("full") else [answer, store]
     lines += ["refused 5, place 0", "refused 7, place 0", "refused 9, place 0"]
-    for number, place, reads, out, sheet in SMALL_CYCLES:
-        lines += [f"cycle of {len(reads) // 6} reads: refused {number}, place {place}", "reads " + reads, "packets " + "ee" * out, "schedule " + "ee" * sheet]
+    for number, place, reads, out, schedule in SMALL_CYCLES:
+        lines += [f"cycle of {len(reads) // 6} reads: refused {number}, place {place}", "reads " + reads, "packets " + "ee" * out, "schedule " + "ee" * schedule]
     lines += ["cycle of 2 reads: served", "reads 000100010101", "packets 0480", "schedule 01000200"]
     return lines + ["audit: refused 1, place 0", "audit: refused 11, place 0", "audit: no"]
 
@@ -260,13 +311,14 @@ def update_lines():
     return lines, edited, show("full rows 2", {0, 1}, store_after(other, 0, 1, 0, [0x0f, 0xf0]))
 
 
-# The lines of the updates are right: those of the stores, and the cycle that reads three times an updated packet and once its neighbour.
+# Whether the lines of the updates are right: those of the stores, and the cycle that reads three times an updated packet and once its neighbour.
 def are_updates(lines):
     head, edited, tail = update_lines()
-    if lines[:len(head)] != head or lines[len(head) + 2:] != tail:
+    shown = [re.fullmatch(name + " ((?:[0-9a-f]{2})*)", line) for name, line in zip(["packets", "schedule"], lines[len(head):])]
+    if lines[:len(head)] != head or lines[len(head) + 2:] != tail or not all(shown):
         return False
     reads = [(1, 1, 1), (1, 1, 0), (1, 1, 1), (1, 1, 1)]
-    packets, schedule = [bytes.fromhex(line.split(" ")[1]) for line in lines[len(head):len(head) + 2]]
+    packets, schedule = [bytes.fromhex(match[1]) for match in shown]
     pairs = list(zip(schedule[::2], schedule[1::2]))
     return (
         list(packets) == [byte for row, x, i in reads for byte in edited[row][x][i]]
@@ -276,29 +328,70 @@ def are_updates(lines):
     )
 
 
-# The lines that are wrong, of all that is printed: the requests, the counts of each K, the cycles of each K, the set-ups, the small memory, the row sets, and
-# the updates.
-def wrong_lines(requests, lines):
-    tallies = [tally(K) for K in EVERY_K]
-    end = len(requests) + len(tallies) + K_LINES * len(tallies)
-    cycles = lines[len(requests) + len(tallies):end]
-    wrong = [line for request, line in zip(requests, lines) if not is_right(request, line)]
-    if lines[len(requests):len(requests) + len(tallies)] != tallies or len(lines) <= end:
-        return wrong + ["the requests, the counts or what comes after them are not all there"]
-    for n, K in enumerate(EVERY_K):
-        wrong += wrong_cycles(K, cycles[K_LINES * n:K_LINES * (n + 1)])
-    sets = ["row sets"] + [line for full, rows in SIX_SETS for line in set_lines(full, rows)]
+# The answers that are wrong, to the lines of a text; behind them stands the line that says where a longer text was left.
+def wrong_answers(texts, is_cut, lines):
+    wrong = [line for n, (text, line) in enumerate(zip(texts, lines), 1) if not is_right(n, text, line)]
+    left = f"line {len(texts) + 1}: only {MOST_TEXT} bytes of a text are read, and nothing from this line on is judged"
+    return wrong + [line for line in lines[len(texts):] if not is_cut or line != left]
+
+
+# The parts of the self-test, each with how many lines it has and a judge, which gives what is wrong in those lines.
+def self_test():
+    unless = lambda is_right, name: [] if is_right else [name]
     small = set_up_lines() + small_lines()
-    after = end + len(small)
-    wrong += [] if lines[end:after] == small else ["the set-ups or the small memory"]
-    wrong += [] if lines[after:after + len(sets)] == sets else ["the row sets"]
-    return wrong + ([] if are_updates(lines[after + len(sets):]) else ["the updates"])
+    sets = ["row sets"] + [line for full, rows in SIX_SETS for line in set_lines(full, rows)]
+    head, _, tail = update_lines()
+    return [
+        *[(1, lambda lines, K=K: unless(lines == [tally(K)], f"K {K}: the counts")) for K in EVERY_K],
+        *[(K_LINES, lambda lines, K=K: wrong_cycles(K, lines)) for K in EVERY_K],
+        (len(small), lambda lines: unless(lines == small, "the set-ups or the small memory")),
+        (len(sets), lambda lines: unless(lines == sets, "the row sets")),
+        (len(head) + 2 + len(tail), lambda lines: unless(are_updates(lines), "the updates")),
+    ]
+
+
+# What is wrong in all the lines that were printed.
+def wrong_lines(parts, lines):
+    wrong = []
+    for size, judge in parts:
+        wrong += judge(lines[:size])
+        lines = lines[size:]
+    return wrong
+
+
+def unusable(why):
+    print(f"cases.py: {why}", file=sys.stderr)
+    sys.exit(2)
 
 
 def main():
-    requests = [[int(n) for n in line.split()] for line in open(sys.argv[1]) if line.strip()]
-    lines = sys.stdin.read().splitlines()
-    wrong = wrong_lines(requests, lines)
+    parser = argparse.ArgumentParser(
+        description="Judges what the program cases prints for a text of requests, by the rules alone: there is no planner in here. Reads what "
+        "was printed from standard input. Prints each line that is wrong, and how many there are.",
+        epilog="The exit status is 0 where all is right, 1 where a line is wrong, and 2 where there is nothing to judge: the file cannot be read, "
+        "or the output is empty, ends within a line, or has another number of lines than it is to have.",
+    )
+    parser.add_argument("requests", metavar="REQUESTS", help="the text that the program read: its standard input")
+    parser.add_argument("--self-test", action="store_true", help="the program was called with --self-test too")
+    asked = parser.parse_args()
+    try:
+        with open(asked.requests, "rb") as file:
+            texts, is_cut = lines_of(file.read())
+    except OSError as error:
+        unusable(f"{asked.requests}: {error.strerror}")
+    output = sys.stdin.buffer.read().decode("latin-1")
+    if not output:
+        unusable("standard input is empty: it is to be what the program printed")
+    *lines, rest = output.split("\n")
+    if rest:
+        unusable("the output ends within a line")
+    answers = len(texts) + is_cut
+    parts = [(answers, lambda lines: wrong_answers(texts, is_cut, lines))] + (self_test() if asked.self_test else [])
+    due = sum(size for size, _ in parts)
+    if len(lines) != due:
+        unusable(f"the output has {len(lines)} lines, and {due} are due: {answers} for the requests"
+                 + (f" and {due - answers} of the self-test" if asked.self_test else ", without a self-test"))
+    wrong = wrong_lines(parts, lines)
     for line in wrong:
         print("wrong:", line)
     print(f"{len(lines)} lines, {len(wrong)} wrong")

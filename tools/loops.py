@@ -4,14 +4,16 @@ of the functions of the library that it calls, the innermost loops that work on 
 
     python3 tools/loops.py
 
-Needs rt and objdump, on x86-64. It works in a scratch directory: a copy of the crates, and a static library over `memory` with the exported functions.
+Reads the crates; writes nothing but a scratch directory, with a copy of the crates and a static library over `memory` with the exported functions, which it removes.
+Needs rt and objdump, and x86-64. Exit status: 0, or 2 where it can't go on.
 """
 import pathlib
+import platform
 import re
-import subprocess
 import tempfile
 
 from exported import build
+from tool import Arguments, Stop, call, need, run
 
 STATE = "k: usize, m: usize, p: usize, g: usize, full: u64"
 OPERATIONS = {
@@ -83,10 +85,14 @@ def describe(code, part):
 
 
 def main():
+    Arguments(__doc__).parse_args()
+    need("rt", "objdump")
+    if platform.machine() not in ("x86_64", "AMD64"):
+        raise Stop(f"reads the instructions of x86-64, and this machine is {platform.machine()}")
     exports = [EXPORT.format(name=name, state=STATE, parameters=parameters, call=call) for name, (parameters, call) in OPERATIONS.items()]
     with tempfile.TemporaryDirectory() as scratch:
         archive = build(pathlib.Path(scratch), "memory", USES + "".join(exports))
-        listing = subprocess.run(["objdump", "-dr", "--no-show-raw-insn", archive], check=True, capture_output=True, text=True).stdout
+        listing = call(["objdump", "-dr", "--no-show-raw-insn", archive])
     found = functions(listing)
     for name in OPERATIONS:
         for function in reached(found, f"exported_{name}", []):
@@ -98,4 +104,4 @@ def main():
 
 
 if __name__ == "__main__":
-    main()
+    run(main)

@@ -5,13 +5,14 @@ the limit.
 
     python3 tools/plan_speed.py
 
-Needs rt and rustc. It works in a scratch directory: a copy of the crates, and a static library over `plan` with the exported functions.
+Reads the crates; writes nothing but a scratch directory, with a copy of the crates and a static library over `plan` with the exported functions, which it
+removes. Needs rt and rustc. Exit status: 0, or 2 where it can't go on or where a plan differs.
 """
 import pathlib
-import subprocess
 import tempfile
 
 from exported import ROOT, build
+from tool import Arguments, call, need, read, run
 
 EXPORTS = """
 use plan::plan_group;
@@ -233,15 +234,16 @@ fn main() {
 
 
 def main():
-    rows = (ROOT / "crates" / "table" / "src" / "rows.rt").read_text(encoding="utf-8")
-    rows = rows.replace("use audit::Pair;\n", "")
+    Arguments(__doc__).parse_args()
+    need("rt", "rustc")
+    rows = read(ROOT / "crates" / "table" / "src" / "rows.rt").replace("use audit::Pair;\n", "")
     with tempfile.TemporaryDirectory() as scratch:
         work = pathlib.Path(scratch)
         archive = build(work, "plan", EXPORTS)
-        (work / "bench.rs").write_text(BENCH.replace("@ROWS@", rows))
-        subprocess.run(["rustc", "-O", "bench.rs", "-L", archive.parent, "-o", "bench"], cwd=work, check=True)
-        subprocess.run(["./bench"], cwd=work, check=True)
+        (work / "bench.rs").write_text(BENCH.replace("@ROWS@", rows), encoding="utf-8")
+        call(["rustc", "-O", "bench.rs", "-L", archive.parent, "-o", "bench"], cwd=work)
+        print(call(["./bench"], cwd=work), end="")
 
 
 if __name__ == "__main__":
-    main()
+    run(main)

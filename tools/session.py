@@ -1,12 +1,16 @@
 #!/usr/bin/env python3
-"""Answers a session file by the words of the rules alone. Which plan a group gets does not show in an answer, so there is no bank and no planner
-here: a memory is the packets that each full row was last given, and a read takes its packet from there.
+"""Answers a session file by the rules alone, as the program session does. Which plan a group gets does not show in an answer, so there is no
+bank and no planner here: a memory is the packets that each full row was last given, and a read takes its packet from there.
 
     python3 tools/session.py < crates/session/stdin
 """
+import argparse
 import sys
 
 MOST_TEXT, MOST_LINE, MOST_STORE = 32768, 4096, 16384
+
+# What is said of a longer text, on standard error, as the program session says it.
+CUT = f"The text is longer than {MOST_TEXT} bytes: nothing behind these was answered."
 
 
 class Refused(Exception):
@@ -102,6 +106,18 @@ def answers(text):
         yield reply.hex()
 
 
-if __name__ == "__main__":
-    for reply in answers(sys.stdin.buffer.read()):
+def main():
+    argparse.ArgumentParser(
+        description="Answers a session file by the rules alone, as the program session does. Reads the file from standard input, lines of hexadecimal, "
+        "one frame a line, and prints a line for each. Of a file longer than 32768 bytes only these are read, which is said on standard error.",
+        epilog="The exit status is 0, refusals or not, and 2 where it is called with a word that it does not know.",
+    ).parse_args()
+    text = sys.stdin.buffer.read()
+    for reply in answers(text):
         print(reply)
+    if len(text) > MOST_TEXT:
+        print(CUT, file=sys.stderr)
+
+
+if __name__ == "__main__":
+    main()

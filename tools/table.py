@@ -2,12 +2,17 @@
 """Writes the stored table of the planner, crates/table/src/rows.rt, which the definitions take it from.
 
     python3 tools/table.py
+    python3 tools/table.py --check
 
 A row is a plan for one sorted request: falling counts that total 2^(K-1). The rows are found by a randomised search with a fixed seed, so
 every run writes the same file. Nothing rests on the search: whatever stands in it, the prover tests every row and that none is missing.
+
+Reads nothing, and needs nothing but Python. With --check it writes nothing, and says whether the file is what it would write. Exit status: 0, 1 where the file is
+another, or 2 where it can't go on.
 """
-import pathlib
 import textwrap
+
+from tool import ROOT, Arguments, read, run
 
 LEAST_SYMBOLS, MOST_SYMBOLS = 2, 5
 CHANCE = {1: 1701240189117242, 2: 321322766291006, 3: 60690031188646, 4: 11462866226986}  # of a step that makes it so much worse, in 2^53
@@ -132,23 +137,36 @@ def stored(K, rows):
     return f"\n// The rows of K = {K}.\npub static ROWS_OF_{K}: [[Pair; {1 << K - 1}]; {len(rows)}] = [\n{''.join(texts)}];\n"
 
 
-def main():
-    rows = table()
+def source(rows):
+    """The text of the file."""
     entries = trie(rows)
-    crate = pathlib.Path(__file__).parent.parent / "crates" / "table"
-
-    (crate / "src" / "rows.rt").write_text(
-        "// The stored rows and their trie. Written by tools/table.py; nothing rests on how they were found.\n"
+    return (
+        "// The stored rows and their trie [form.table]. Written by tools/table.py; nothing rests on how they were found.\n"
         "// Statics, because a constant array would be stored anew at each use; one for each K, so that a row has its pairs and no more. A trie of\n"
         "// indices, because it is constant data, without a heap.\n\n"
         "use audit::Pair;\n\n"
-        "// The pairs of a row, as the rules write them.\n"
+        "// The pairs of a row: (a, b), as a plan has them [plan.pair].\n"
         "macro_rules! row {\n    ($(($a:literal, $b:literal))*) => { [$(Pair { a: $a, b: $b }),*] };\n}\n\n"
         "// Where the row of a request is: by the walk of specs/Table.antt.\n"
         f"pub static TRIE: [u8; {len(entries)}] = [\n"
         + textwrap.fill(", ".join(map(str, entries)) + ",", 99, initial_indent="    ", subsequent_indent="    ") + "\n];\n"
-        + "".join(stored(K, rows[K]) for K in rows), encoding="utf-8")
+        + "".join(stored(K, rows[K]) for K in rows)
+    )
+
+
+def main():
+    arguments = Arguments(__doc__)
+    arguments.add_argument("--check", action="store_true", help="compare the file instead of writing it")
+    check = arguments.parse_args().check
+    file = ROOT / "crates" / "table" / "src" / "rows.rt"
+    text = source(table())
+    if not check:
+        file.write_text(text, encoding="utf-8")
+    elif read(file) != text:
+        print("crates/table/src/rows.rt is not what tools/table.py writes")
+        return 1
+    return 0
 
 
 if __name__ == "__main__":
-    main()
+    run(main)

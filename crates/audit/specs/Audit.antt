@@ -12,12 +12,12 @@ use Rattle.audit.specs.Plan.{is_plan, IsPlan}
 abbrev pub all_zero : List ℕ → Bool
 all_zero counts = list_all (λ c. c == 0) counts
 
--- The refusals of a request vector: 1, K is out of its range; 11, a count for a symbol from K on is not 0.
+-- The refusals of a request vector: 1, K is out of its range; 11, one of the counts behind the first K is not 0 [audit.refusals].
 abbrev pub counts_refusal : ℕ → List ℕ → Verdict
 counts_refusal K counts =
     check 1 0 (between LEAST_SYMBOLS MOST_SYMBOLS K) then check 11 0 (all_zero (drop K counts))
 
--- A request vector of a group of K symbols, in words: five counts, those from K on being 0.
+-- A request vector of a group of K symbols, in words: five counts, with nothing but 0 behind the first K [plan.request].
 pub record RequestOf (K : ℕ) (counts : List ℕ) : Type 0 where
   pub symbols : SymbolsInRange K
   pub size : length counts ≡ MOST_SYMBOLS
@@ -28,7 +28,7 @@ pub record WithinLimit (K : ℕ) (counts : List ℕ) : Type 0 where
   pub request : RequestOf K counts
   pub total_most : sum counts ≤ limit_of K
 
--- The pairs that bytes stand for, two bytes each: a, then b.
+-- The pairs that bytes stand for: a byte is a, and the next one its b; a last byte without one is left out.
 abbrev pub pairs_of : List ℕ → List Pair
 pairs_of [] = []
 pairs_of (a ∷ []) = []
@@ -53,7 +53,7 @@ Yes = Ok true
 pattern abbrev pub No : Audited
 No = Ok false
 
--- What the audit answers: a refusal, or yes exactly if the bytes are an even count and their pairs a plan.
+-- What the audit answers: a refusal, or yes exactly if the bytes are an even count and their pairs a plan [audit.yes], [audit.no].
 unfoldable pub audit_of : ℕ → List ℕ → List ℕ → Audited
 audit_of K counts bytes = answer_by (length bytes % 2 == 0 && is_plan (is_bank K) counts (pairs_of bytes)) (counts_refusal K counts)
 

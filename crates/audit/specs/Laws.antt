@@ -21,7 +21,7 @@ pub record WrongCounts (K : ℕ) (counts : List ℕ) (verdict : Verdict) : Type 
 -- yes: an audit of five counts says yes exactly if they are a request, and the bytes are an even count and a plan for it.
 -- otherwise: any other audit of a request says no; none is refused.
 -- served: the banks that a plan's pairs open serve its reads.
--- limit: no list of pairs is a plan for counts that total more than 2^(K-1).
+-- limit: where the total of the counts passes 2^(K-1), no list of pairs is a plan for them.
 -- never: so an audit of such counts never says yes, whatever the bytes are.
 -- few: where K is at most 5, a plan has at most sixteen pairs.
 -- pair: pair n of a list of bytes is a, which is byte 2n, and b, which is the byte after it.

@@ -21,12 +21,12 @@ abbrev pub opened : Pair → Banks
 opened pair = opens pair.a pair.b
 
 -- The pair serves a symbol with the banks that may be used: bank a is one of them, and b is 0 or one of them; a > b, and
--- a XOR b = 2^symbol.
+-- a XOR b = 2^symbol [plan.pair].
 abbrev pub serves : (usable : ℕ → Bool) (symbol : ℕ) → Pair → Bool
 serves usable symbol pair =
     usable pair.a && (pair.b == 0 || usable pair.b) && nat_lt pair.b pair.a && bit_xor pair.a pair.b == 2 ^ symbol
 
--- One pair for each read, in the order of the reads.
+-- The pairs serve the reads, one by one in their order, and none is left over.
 abbrev pub serves_all : (ℕ → Bool) → List ℕ → List Pair → Bool
 serves_all usable [] [] = true
 serves_all usable [] (pair ∷ pairs) = false
@@ -47,7 +47,8 @@ abbrev pub none_twice : Banks → Bool
 none_twice [] = true
 none_twice (b ∷ banks) = not (among b banks) && none_twice banks
 
--- A plan for the counts: one pair for each read, first all pairs for symbol 0, then symbol 1, and so on; and no bank is opened twice.
+-- A plan for the counts: its pairs serve the reads of symbol 0, of symbol 1 and of those behind it, read by read, and open no bank a second
+-- time [plan.pairs], [plan.once].
 unfoldable pub is_plan : (usable : ℕ → Bool) → List ℕ → List Pair → Bool
 is_plan usable counts pairs = serves_all usable (reads_of counts) pairs && none_twice (banks_opened pairs)
 
@@ -62,7 +63,7 @@ pub record Serves (usable : ℕ → Bool) (symbol : ℕ) (pair : Pair) : Type 0 
 abbrev pub pair_at : List Pair → ℕ → Pair
 pair_at pairs n = slice_index_or pairs n no_pair
 
--- one_each: there is one pair for each read. once: no two pairs open the same bank.
+-- one_each: there are as many pairs as reads. once: no two pairs open the same bank.
 -- in_order: pair n of a symbol, both numbered from 0, serves it, and the pairs stand symbol by symbol.
 pub record IsPlan (usable : ℕ → Bool) (counts : List ℕ) (pairs : List Pair) : Type 0 where
   pub one_each : length pairs ≡ sum counts

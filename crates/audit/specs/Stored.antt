@@ -6,11 +6,11 @@ use Rattle.audit.specs.declared.Pair.{Pair}
 use Rattle.audit.specs.declared.Plan.{Plan}
 use Rattle.audit.specs.Plan.{pair_at}
 
--- One bank of each pair, in an array of sixteen: places after the last pair hold 0.
+-- One bank of each pair, in an array of sixteen that is filled up with 0.
 abbrev pub column : (Pair → ℕ) → List Pair → List ℕ
 column bank pairs = map (λ n. bank (pair_at pairs n)) (range_with_len 0 MOST_PAIRS)
 
--- Pairs in two such arrays, and how many they are.
+-- Pairs in two such arrays, and how many they are [plan.places].
 abbrev pub stored : List Pair → Plan
 stored pairs = record { first = column (λ p. p.a) pairs; second = column (λ p. p.b) pairs; len = length pairs }
 

@@ -14,15 +14,16 @@ use refusals::{Reason, Refusal, Verdict, check, is_between};
 use simplex::{Group, LEAST_SYMBOLS, MOST_PAIRS, MOST_SYMBOLS};
 use std::iter;
 
-// A recovery pair (customers say: a pair of bank numbers): the banks that are opened for one read. Where b is 0, bank a is read by itself.
+// A recovery pair (customers say: a pair of bank numbers): the banks that are opened for one read. Where b is 0, that is bank a alone
+// [plan.pair].
 #[derive(Clone, Copy, Debug, PartialEq, Eq)]
 pub struct Pair {
     pub a: u8,
     pub b: u8,
 }
 
-// The recovery pairs of a group's reads. As the planner gives it, `len` of them are used, and the places after them hold (0, 0). The
-// project's rules name this form: arrays of first and second banks, and how many are used.
+// The recovery pairs of a group's reads. As the planner gives it, `len` of them are used, and the places after them hold (0, 0)
+// [form.plan], [plan.places].
 #[derive(Clone, Copy, Debug, Default, PartialEq, Eq)]
 pub struct Plan {
     pub first: [u8; MOST_PAIRS],
@@ -43,7 +44,7 @@ fn are_zero(counts: &[usize]) -> bool
 }
 
 // The refusal of a request vector by its form: 1, then 11.
-// K and the counts come apart here and in `audit`, since whether they are a request is what is judged.
+// K and the counts come apart here and in `audit`, since whether they are a request is what is judged [audit.refusals].
 pub fn judge_counts(k: usize, counts: [usize; MOST_SYMBOLS]) -> Verdict
     ensures { result ≡ counts_refusal k counts }
 {
@@ -95,7 +96,7 @@ fn serves_symbol(group: Group, symbol: usize, a: usize, b: usize) -> bool
     is_bank(group, a) && (b == 0 || is_bank(group, b)) && b < a && a ^ b == 1 << symbol
 }
 
-// Whether a bank is among those met. No `Option`: the rules' pairs have b = 0 for no second bank, and the definitions take it so.
+// Whether a bank is among those met. No `Option`: a pair has b = 0 for no second bank [plan.pair].
 fn is_met(met: u64, bank: usize) -> bool
     requires { bank < 64 }
     ensures { result ≡ (not (bank == 0) && marked met bank) }
@@ -128,7 +129,8 @@ fn audit_pairs(k: usize, counts: [usize; MOST_SYMBOLS], bytes: &[u8]) -> bool
     true
 }
 
-// Audits a plan in a group of k symbols: refused with 1 or 11, or whether the bytes, two for each pair, are a plan for the counts.
+// Audits a plan in a group of k symbols: refused with 1 or 11, or whether the bytes, two for each pair, are a plan for the counts
+// [audit.yes], [audit.no], [audit.refusals].
 #[tactic(auto, unfolding(crate::specs::Audit::audit_of))]
 pub fn audit(k: usize, counts: [usize; MOST_SYMBOLS], bytes: &[u8]) -> Result<bool, Refusal>
     ensures { result ≡ audit_of k counts bytes.now }

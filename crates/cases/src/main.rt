@@ -1,11 +1,29 @@
-// Plans requests, and audits the plans. First the requests of standard input, one a line: K and five counts, with a space between. (Other
-// characters than digits, spaces and the line feed that ends a line are passed over.) Then every request there is, of every K, that totals
-// at most one read more than the limit. Then read cycles of a memory at each K, served and refused, as cycles.rt says; set-ups and a small
-// memory, as refused.rt says; releases of row sets, as sets.rt says; last, updates of packets, as updates.rt says.
+// Plans requests. A request is how often each packet of one group is read in a cycle; its plan says which banks each of these reads opens,
+// no bank twice. Requests come from standard input, one a line: K, which is the number of packets in the group (2 to 5), and five counts, of
+// which those behind the Kth are 0, with one space between, as in `5 4 3 3 3 3`. Each line is answered by a line:
+//
+//     K 5, counts 4 3 3 3 3: (11,10) (25,24) .. (28,12); the audit says yes
+//     K 2, counts 2 1 0 0 0: refused 12, place 0
+//     line 7: six numbers are needed, K and five counts, and these are 4
+//
+// The first is a plan, a pair of banks for each read (the second is 0 where one bank is opened) [plan.pairs], and whether the audit finds it
+// right. The second refuses a request [plan.refusals]: with 1 where K is not 2 to 5, 11 where a count behind the Kth is not 0, 12 where there
+// are more reads than the group serves in a cycle, 2^(K-1). The third is for a line that is no request: its number, from 1, and what is wrong
+// with it. At most 32,768 bytes are read. Of a longer text the lines that end within them are answered, and one line more says where it was
+// left.
+//
+//     cases [--self-test] < requests
+//
+// With --self-test, the self-test follows: every request there is, of every K, that totals at most one read more than the limit; then read
+// cycles of a memory at each K, served and refused, as cycles.rt says; set-ups and a small memory, as refused.rt says; releases of row sets,
+// as sets.rt says; last, updates of packets, as updates.rt says.
+//
+// The exit status is 0 where each line was a request, refused or not, and the text was read to its end; else 1, also where reading or
+// writing failed; and 2 where the program is called with other words, which it says on standard error.
 //
 // With L = 2^(K-1), C(L+K, K) requests total at most L and ask K * C(L+K, K+1) reads, and C(L+K, K-1) total L + 1. tools/cases.py computes
-// these, and judges each plan and refusal of the first part by the words of the rules: which plan a request gets is free, except where no
-// symbol is read more than once (2^K requests). All plans but that of no reads have a first pair.
+// these, and judges each plan and refusal of the requests by the rules, with no planner in it: which plan a request gets is free [plan.own],
+// except where no packet is read more than once (2^K requests) [plan.systematic]. All plans but that of no reads have a first pair.
 #![tactic(auto)]
 
 ghost use Rattle.std.specs.Prelude.{◌≤◌, ◌<◌};
@@ -14,6 +32,7 @@ ghost use Rattle.simplex.specs.Shape.{SymbolsInRange};
 mod cycles;
 mod memories;
 mod refused;
+mod requests;
 mod sets;
 mod show;
 mod updates;
@@ -21,11 +40,17 @@ mod updates;
 use audit::Plan;
 use refusals::{Reason, Refusal};
 use simplex::{LEAST_SYMBOLS, MOST_PAIRS, MOST_SYMBOLS};
+use std::env::FillError;
 use std::num::Saturating;
+use std::process::ExitCode;
+use std::rt::Env;
 use std::{array, fmt, io, mem};
 
-// The bytes of standard input that are read.
-const MOST_REQUESTS: usize = 4096;
+// The word that asks for the self-test.
+const SELF_TEST: &[u8] = b"--self-test";
+
+const USAGE: &str =
+    "usage: cases [--self-test] < requests, one a line: K and five counts, with one space between";
 
 // What is asked of one group: its K, and how often each symbol is read. It is input that nothing has judged, so it may be one that plan's
 // own Request, which is within the limit, cannot be.
@@ -129,18 +154,6 @@ fn is_systematic(plan: Plan) -> bool {
     plan.second.iter().all(|b| *b == 0)
 }
 
-// Plans one request, and shows the answer.
-fn show_plan(rt: &impl Print, request: Request) -> io::Result<()> {
-    print!(rt; "{request}:")?;
-    match request.plan() {
-        Ok(plan) => {
-            let said = if request.is_passed(plan) { "yes" } else { "no" };
-            println!(rt; "{}; the audit says {said}", Pairs(plan))
-        }
-        Err(refusal) => println!(rt; " {refusal}"),
-    }
-}
-
 impl Tally {
     // Plans one request, and counts the answer.
     fn count(&mut self, request: Request) {
@@ -203,58 +216,39 @@ fn show_requests(rt: &impl Print, k: usize) -> io::Result<()>
     println!(rt; "K {k}: {tally}")
 }
 
-// A number with one more decimal digit; one that may not fit becomes the largest. (`saturating_mul` and `saturating_add` would leave the
-// last five below it as they are, and print them otherwise.)
-fn with_digit(number: usize, digit: usize) -> usize
-    requires { digit < 10 }
-{
-    if number < usize::MAX / 10 {
-        number * 10 + digit
-    } else {
-        usize::MAX
+// Whether the self-test is asked for, by the words behind the program's name; none where it is called wrongly.
+fn asks_self_test(rt: &impl Env) -> Option<bool> {
+    let mut word = [0; SELF_TEST.len()];
+    match (rt.arg(1, &mut word), rt.arg(2, &mut [])) {
+        (Err(FillError::NotPresent), _) => Some(false),
+        (Ok(len), Err(FillError::NotPresent)) if &word[..len] == SELF_TEST => Some(true),
+        _ => None,
     }
 }
 
-// The number that the digits of a text make. No `parse`: characters between the digits are passed over, and a number that is too large is
-// no error.
-fn number_of(text: &[u8]) -> usize {
-    // `as`, since usize has no From<u32>.
-    text.iter()
-        .filter_map(|b| char::from(*b).to_digit(10))
-        .fold(0, |number, digit| with_digit(number, digit as usize))
-}
-
-// The request of a line. Those of its numbers that are missing are 0, and the spaces after the last are passed over.
-impl From<&[u8]> for Request {
-    fn from(line: &[u8]) -> Request {
-        let mut texts = line.splitn(MOST_SYMBOLS + 1, |b| *b == b' ');
-        let k = texts.next().map_or(0, number_of);
-        let counts = array::from_fn(|_| texts.next().map_or(0, number_of));
-        Request { k, counts }
-    }
-}
-
-// Shows the request of each line.
-fn show_lines(rt: &impl Print, requests: &[u8]) -> io::Result<()> {
-    let mut lines = requests.split(|b| *b == b'\n');
-    // No line feed ends what comes last.
-    lines.next_back();
-    for line in lines {
-        show_plan(rt, Request::from(line))?;
-    }
-    Ok(())
-}
-
-fn main(rt: HostRuntime) -> io::Result<()> {
-    // With room for any text, and a length: no heap is asked for.
-    let mut text = [0; MOST_REQUESTS];
-    let len = lines::input::read_text(rt.reader(), &mut text)?;
-    show_lines(&rt, &text[..len])?;
+// Prints the self-test.
+fn self_test(rt: &impl Print) -> io::Result<()> {
     for k in LEAST_SYMBOLS..=MOST_SYMBOLS {
-        show_requests(&rt, k)?;
+        show_requests(rt, k)?;
     }
-    cycles::run(&rt)?;
-    refused::run(&rt)?;
-    sets::run(&rt)?;
-    updates::run(&rt)
+    cycles::run(rt)?;
+    refused::run(rt)?;
+    sets::run(rt)?;
+    updates::run(rt)
+}
+
+fn main(rt: HostRuntime) -> io::Result<ExitCode> {
+    let Some(has_self_test) = asks_self_test(&rt) else {
+        eprintln!(rt; "{USAGE}")?;
+        return Ok(ExitCode::from(2));
+    };
+    let all_right = requests::answer_all(rt.reader(), &mut io::writer(&rt))?;
+    if has_self_test {
+        self_test(&rt)?;
+    }
+    Ok(if all_right {
+        ExitCode::SUCCESS
+    } else {
+        ExitCode::FAILURE
+    })
 }

@@ -1,6 +1,6 @@
 // Set-ups: each refusal where later numbers apply too, and the state of zeros that it leaves. Then a small memory: its whole store, and the
 // refusals that no session meets (5, 6 and 16), again where later numbers apply too. It has K = 2, two groups, packets of one byte and two
-// rows. Last, the refusals of an audit. tools/cases.py has the answers by the words of the rules.
+// rows. Last, the refusals of an audit. tools/cases.py has the answers by the rules.
 ghost use Rattle.std.specs.Prelude.{◌≤◌};
 
 use crate::memories::Memory;

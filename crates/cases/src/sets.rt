@@ -1,5 +1,5 @@
 // Releases of row sets: a memory with K = 2, one group, packets of one byte and six rows, of which 0, 1, 3 and 5 are full. tools/cases.py
-// has the answers by the words of the request.
+// has the answers, by the rules.
 use crate::memories::filled;
 use crate::show::print_outcome;
 use layout::Shape;

@@ -1,5 +1,5 @@
 // Updates of packets: a memory with K = 3, two groups, packets of two bytes and two rows, and its whole store after each. tools/cases.py
-// has the answers and the stores by the words of the request.
+// has the answers and the stores, by the rules.
 ghost use Rattle.std.specs.Prelude.{◌≤◌};
 
 use crate::memories::{Memory, filled};

@@ -1,5 +1,6 @@
--- What was read to the front of a text, of which a session then answers what it reads.
-use Rattle.std.proofs.Common.{◌≡◌, ℕ, List, Option, None, Some, IfSome, length, take, ap, ◌∙◌, subst, take-take, le_refl}
+-- What was read to the front of a text, which a session answers, and whether the input is longer.
+use Rattle.std.proofs.Common.{◌≡◌, ℕ, ◌+◌, ◌≤◌, ◌<◌, ◌↔◌, min, Bool, IsTrue, List, Option, None, Some, Result, Ok, Err, IfSome, IfOk, length, take, ap, ◌∙◌, subst, arith, length-append, length-take, take-take}
+use Rattle.std.specs.Io.KnownBytes.{Consumes}
 use lib.ListN.{length-replicate}
 use Rattle.cells.specs.Xor.{zeros}
 use Rattle.lines.specs.Input.{Fills}
@@ -9,12 +10,31 @@ use Rattle.frames.specs.declared.TheConstants.{MOST_STORE}
 use Rattle.steps.specs.declared.TheConstants.{MOST_TEXT}
 use Rattle.steps.specs.Session.{Fresh, lines_done, text_read, session_of}
 
--- of what was read as much is answered as of the whole input
+-- what was read is the front of the input
+front_read : (input text : List ℕ) (n : ℕ) → Fills (zeros MOST_TEXT) n text input → (n ≡ min MOST_TEXT (length input)) × (take n text ≡ take MOST_TEXT input)
+front_read input text n read =
+    let long : length (zeros MOST_TEXT) ≡ MOST_TEXT = length-replicate {A = ℕ} MOST_TEXT 0 in
+    (read.0 ∙ ap (λ m. min m (length input)) long, ap (take n) read.1 ∙ front_put (zeros MOST_TEXT) input n read.0 ∙ ap (λ m. take m input) long)
+
+-- as much is answered as of the whole input
 pub as_input : (P : List ℕ → Type 0) (known : Option (List ℕ)) (text : List ℕ) (n : ℕ) → IfSome known (Fills (zeros MOST_TEXT) n text)
     → P (lines_done Fresh (zeros MOST_STORE) (text_read (take n text))).output → IfSome known (λ input. P (session_of input))
 as_input P None text n read p = tt
 as_input P (Some input) text n read p =
-    let long : length (zeros MOST_TEXT) ≡ MOST_TEXT = length-replicate {A = ℕ} MOST_TEXT 0 in
-    let part : take n text ≡ take MOST_TEXT input = ap (take n) read.1 ∙ front_put (zeros MOST_TEXT) input n read.0 ∙ ap (λ m. take m input) long in
-    let same : take MOST_TEXT (take n text) ≡ take MOST_TEXT input = ap (take MOST_TEXT) part ∙ take-take MOST_TEXT MOST_TEXT input (le_refl MOST_TEXT) in
+    let same : take MOST_TEXT (take n text) ≡ take MOST_TEXT input =
+    ap (take MOST_TEXT) (front_read input text n read).1 ∙ take-take MOST_TEXT MOST_TEXT input (omega arith) in
     subst (λ l. P (lines_done Fresh (zeros MOST_STORE) (lines_of l)).output) same p
+
+-- where as much was read as a session reads, the input is longer exactly where something is left of it
+pub longer : {E : Type 0} (known left : Option (List ℕ)) (text : List ℕ) (n : ℕ) (look : Result Bool E) → MOST_TEXT ≤ n
+    → IfSome known (Fills (zeros MOST_TEXT) n text) → Consumes known left (take n text)
+    → IfSome left (λ rest. IfOk look (λ more. IsTrue more ↔ (0 < length rest)))
+    → IfSome known (λ input. IfOk look (λ more. IsTrue more ↔ (MOST_TEXT < length input)))
+longer None left text n look all read used h = tt
+longer (Some input) None text n look all read used h = absurd used
+longer (Some input) (Some rest) text n (Err e) all read used h = tt
+longer (Some input) (Some rest) text n (Ok more) all read used h =
+    let front = front_read input text n read in
+    let size : length input ≡ length (take n text) + length rest = ap length used ∙ length-append (take n text) rest in
+    let part : length (take n text) ≡ min MOST_TEXT (length input) = ap length front.1 ∙ length-take MOST_TEXT input in
+    (λ t. let some : 0 < length rest = h.0 t in omega (arith, front.0), λ l. h.1 (omega (arith, front.0)))

@@ -1,5 +1,5 @@
 -- The turns of a loop over a text's lines, each of which does a line and writes its answer.
-use Rattle.std.proofs.Common.{◌≡◌, ℕ, ◌+◌, ◌≤◌, ◌<◌, List, [], ◌∷◌, ◌++◌, Option, Result, Ok, Err, length, take, refl, sym, ap, ◌∙◌, subst, append_assoc, append-nil, arith}
+use Rattle.std.proofs.Common.{◌≡◌, ℕ, ◌+◌, ◌≤◌, ◌<◌, List, [], ◌∷◌, ◌++◌, Option, length, take, refl, sym, ap, ◌∙◌, subst, append_assoc, append-nil, arith}
 use Rattle.std.specs.Io.KnownBytes.{Appends}
 use Rattle.std.proofs.KnownBytes.{Appends-nil, Appends-trans}
 use Rattle.cells.proofs.Cells.{cell_put, length_put}
@@ -12,7 +12,7 @@ use Rattle.steps.specs.declared.TheConstants.{MOST_TEXT}
 use Rattle.steps.specs.Session.{Session, After, AfterLines, line_done, lines_done, text_read}
 use Rattle.steps.specs.Steps.{AnswersLine}
 use Rattle.steps.proofs.Sessions.{done_more, output_append}
-use Rattle.console.specs.Written.{WritesFront, Writes, AllDone, done_after, Stopped, Answered}
+use Rattle.console.specs.Written.{WritesFront, AllDone, done_after, Stopped}
 use Rattle.console.proofs.Written.{failed_inside, some_printed}
 
 -- before a turn: these lines are done, of all, and those of what is left are not
@@ -92,9 +92,3 @@ pub in_bytes : {begun : Session} {first : List ℕ} {lines : List (List ℕ)} {s
 in_bytes {begun = begun} {first = first} s =
     let output = ap (λ (l : List (List ℕ)). (lines_done begun first l).output) s.split ∙ output_append begun first s.before s.last s.behind in
     failed_inside _ _ _ _ _ _ _ (some_printed _) output s.written s.part
-
--- so all of it is written, or a front
-pub wrote : {E : Type 0} (begun : Session) (first : List ℕ) (lines : List (List ℕ)) (session : Session) (store : List ℕ) (old new : Option (List ℕ)) (r : Result (Unit {0}) E)
-    → Answered begun first lines session store old new r → Writes old new r (lines_done begun first lines).output
-wrote begun first lines session store old new (Ok x) d = d.written
-wrote begun first lines session store old new (Err e) s = in_bytes s

@@ -2,17 +2,18 @@
 // and in order, and its answer is written.
 #![tactic(auto)]
 
-ghost use Rattle.std.specs.Prelude.{◌≡◌, ◌≢◌, ◌<◌, length, take, IfErr, IfSome};
+ghost use Rattle.std.specs.Prelude.{◌≡◌, ◌≢◌, ◌<◌, ◌↔◌, length, take, IsTrue, IfOk, IfErr, IfSome};
 ghost use Rattle.std.specs.IoError.{error_kind};
 ghost use Rattle.steps.specs.Session.{text_read, session_of};
 ghost use Rattle.console.specs.Written.{Writes, Answered};
 
 use frames::{MOST_OUTPUT, MOST_STORE};
+use lines::input::read_text;
 use lines::reader::Reader;
 use std::io::{self, ErrorKind, Read, Write};
 use steps::{MOST_TEXT, Session};
 
-// The part of a text that a session reads.
+// The part of a text that a session reads [session.cut].
 #[tactic(auto, using(std::proofs::lemmas::List::take_min))]
 fn cut(text: &[u8]) -> &[u8]
     ensures { result.now ≡ take MOST_TEXT text.now }
@@ -42,7 +43,7 @@ fn write_all<W: Write>(writer: &mut W, bytes: &[u8]) -> io::Result<()>
 }
 
 // Answers each line of a text, from a session and its store on. After a line whose answer cannot be written it stops, since nobody would
-// learn what the lines behind it did. Gives the session, and whether all was written.
+// learn what the lines behind it did [session.failure]. Gives the session, and whether all was written.
 pub fn answer<W: Write>(
     text: &[u8],
     mut session: Session,
@@ -66,26 +67,54 @@ pub fn answer<W: Write>(
     (session, Ok(()))
 }
 
-// Answers what a reader has, from the start of a session on: its first 32,768 bytes. Nothing is written where reading
-// fails: of a failure the clauses say what is written of the output, and the tests that it is nothing then, and which error is given.
-pub fn answer_all<R: Read + Drop, W: Write>(reader: R, writer: &mut W) -> io::Result<()>
+// Whether a reader has a byte more; it is read, and lost.
+fn has_more<R: Read>(reader: &mut R) -> io::Result<bool>
+    ensures more { IfSome (R.remaining reader.old) (λ left.
+        IfOk result (λ has_more. IsTrue has_more ↔ (0 < length left))) }
+    ensures uninterrupted { IfErr result (λ e. error_kind e ≢ ErrorKind.Interrupted) }
+{
+    Ok(read_text(reader, &mut [0])? > 0)
+}
+
+// Answers what a reader has, from the start of a session on: its first 32,768 bytes, and reads none behind them before all is answered.
+// Then it looks for one byte more, and gives whether the text was cut [session.cut], or the error of that look. Nothing is written where
+// reading the text fails [session.failure]: of a failure the clauses say what is written of the output, and the tests that it is nothing
+// then, and which error is given.
+pub fn answer_all<R: Read + Drop, W: Write>(
+    mut reader: R,
+    writer: &mut W,
+) -> io::Result<io::Result<bool>>
     ensures written { IfSome (R.remaining reader) (λ input.
         Writes (W.contents writer.old) (W.contents writer.new) result (session_of input)) }
+    ensures cut { IfSome (R.remaining reader) (λ input.
+        IfOk result (λ look. IfOk look (λ is_cut. IsTrue is_cut ↔ (MOST_TEXT < length input)))) }
     ensures uninterrupted { IfErr result (λ e. error_kind e ≢ ErrorKind.Interrupted) }
+    ensures looked { IfOk result (λ look. IfErr look (λ e. error_kind e ≢ ErrorKind.Interrupted)) }
 {
     // With room for any text, and a length: no heap is asked for.
     let mut text = [0; MOST_TEXT];
     let mut store = [0; MOST_STORE];
-    let len = lines::input::read_text(reader, &mut text)?;
+    let len = read_text(&mut reader, &mut text)?;
     let (_, written) = answer(&text[..len], None, &mut store, writer);
-    written
+    written?;
+    // A reader that has come to its end is not asked again.
+    if len < MOST_TEXT {
+        return Ok(Ok(false));
+    }
+    Ok(has_more(&mut reader))
 }
 
-// Answers what standard input has, on standard output: what `answer_all` promises, of this reader and this writer. It has no clause, since
-// none can say that the bytes which the reader gives are those that a terminal, a file or a pipe has sent, or that those which the writer
-// takes come out there.
-pub fn run(rt: &(impl Input + Print)) -> io::Result<()> {
-    answer_all(rt.reader(), &mut io::writer(rt))
+// Answers what standard input has, on standard output: what `answer_all` promises, of this reader and this writer. Where the text was cut,
+// it says so on standard error, after the last answer; where it cannot know, since the look for one byte more fails, it ends with that
+// error. It has no clause, since none can say that the bytes which the reader gives are those that a terminal, a file or a pipe has sent,
+// or that those which the writer takes come out there.
+pub fn run(rt: &(impl Input + Print + Eprint)) -> io::Result<()> {
+    if answer_all(rt.reader(), &mut io::writer(rt))?? {
+        eprintln!(rt;
+            "The text is longer than {MOST_TEXT} bytes: nothing behind these was answered."
+        )?;
+    }
+    Ok(())
 }
 
 #[cfg(test)]

@@ -15,11 +15,11 @@ use Rattle.reads.specs.Reads.{Reads, read_at, count_of, counts_of}
 abbrev pub Plans : Type 0
 Plans = ℕ → List Pair
 
--- The plans of a cycle: a group's is that for the counts of its own reads, and for nothing else.
+-- The plans of a cycle: a group's is that for the counts of its own reads, and for nothing else [plan.own].
 abbrev pub plans_of : (K : ℕ) → Reads → Plans
 plans_of K reads = λ group. plan_of K (counts_of reads group)
 
--- Where read n stands in its group's plan: after all reads for earlier symbols, and after the earlier reads for its own.
+-- Where read n stands in its group's plan: after all reads for earlier symbols, and after the earlier reads for its own [cycle.pairs].
 abbrev pub slot_of : Reads → (n : ℕ) → ℕ
 slot_of reads n =
     let read = read_at reads n in
@@ -33,7 +33,7 @@ pair_of plans reads n = pair_at (plans (read_at reads n).group) (slot_of reads n
 abbrev pub xor_of_cells : Shape → (store : List ℕ) → (group row : ℕ) → Banks → Packet
 xor_of_cells shape store group row banks = xor_all shape.p (map (λ b. cell_at shape store group b row) banks)
 
--- The packet of read n: from the banks of its pair, in its own group and row.
+-- The packet of read n: what the cells of its pair's banks, in its group and row, XOR to [cycle.opens].
 unfoldable pub packet_of : Shape → Plans → (store : List ℕ) → Reads → (n : ℕ) → Packet
 packet_of shape plans store reads n =
     let read = read_at reads n in xor_of_cells shape store read.group read.row (opened (pair_of plans reads n))
@@ -42,7 +42,7 @@ packet_of shape plans store reads n =
 abbrev pub line_of : Plans → Reads → (n : ℕ) → List ℕ
 line_of plans reads n = (pair_of plans reads n).a ∷ (pair_of plans reads n).b ∷ []
 
--- The packets go to the output in the order of the list, and the lines to the schedule.
+-- What the output and the schedule then hold: for read after read, its packet, and its line [cycle.buffers].
 abbrev pub packets_out : Shape → Plans → (store : List ℕ) → Reads → (out : List ℕ) → List ℕ
 packets_out shape plans store reads out = put_each shape.p (packet_of shape plans store reads) (length reads) out
 

@@ -23,8 +23,8 @@ NoneBetween reads m n = (other : ℕ) → m ≤ other → other < n → SameSymb
 
 -- own: the plan of a group goes by that group's own counts, and by nothing else of the list, nor by which group it is.
 -- within, apart: each read of a group has a slot below what the group's counts total, and no two of them have the same.
--- first, next: from the front of the list, the first read for a symbol of a group gets the symbol's first pair in the group's plan, and
--- each one after it the pair after that.
+-- first, next: the reads for one symbol of one group, as they come in the list, have its pairs in the group's plan one after the other,
+-- from the first on.
 -- audited: of a schedule of the right length, pair n, read as the audit reads a list, is the pair of read n.
 -- lines, packets: line n of a schedule of the right length is the pair of read n; of a list that is accepted, part n of the output is its
 -- packet.

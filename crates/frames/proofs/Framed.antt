@@ -1,11 +1,12 @@
--- A line that is not refused with 17: what it is, and the bytes that it stands for.
+-- Which bytes are which frame. A line that is not refused with 17: what it is, and the bytes that it stands for.
 use mathlib.Core.Path.{◌≡◌, refl, sym}
-use mathlib.Core.Logic.{◌↔◌, inl, inr}
+use mathlib.Core.Logic.{◌≢◌, ◌↔◌, inl, inr}
 use mathlib.Core.Bool.{Bool, true, false, ◌&&◌, ◌||◌, or-true}
-use mathlib.Core.List.{List}
+use mathlib.Core.List.{List, [], ◌∷◌}
 use Prim.Native.Nat.{ℕ, ◌/◌, ◌%◌, ◌≤◌}
+use native.Mathlib.Nat.{mul_comm}
 use native.Mathlib.Omega.{arith}
-use borrow.Author.Tests.{eqb-true, eq-eqb}
+use borrow.Author.Tests.{eqb-true, eq-eqb, ne_eqb}
 use lib.Dec.{eqb}
 use lib.ListN.{length, take, length-replicate}
 use Rattle.std.specs.Prelude.{Err}
@@ -13,13 +14,14 @@ use Rattle.std.specs.List.{list_all}
 use Rattle.std.proofs.lemmas.List.Sums.{AllPass-from_list_all, list_all-from_AllPass}
 use Rattle.refusals.specs.Verdict.{Verdict, Accepted, refused, between, check, if_refused}
 use Rattle.refusals.proofs.Verdicts.{check_passed, both, between_words, words_between}
+use Rattle.layout.specs.Laws.{Within}
 use Rattle.cells.specs.Cell.{put}
 use Rattle.cells.specs.Xor.{zeros}
 use Rattle.cells.proofs.Cells.{cell_put}
 use Rattle.lines.specs.Hex.{char0, char9, small_a, small_f, is_digit, bytes_of}
 use Rattle.lines.proofs.Digits.{length_bytes}
 use Rattle.frames.specs.declared.TheConstants.{MOST_CHARACTERS, MOST_FRAME}
-use Rattle.frames.specs.Frame.{Frame, unknown, frame_of, frame_in, line_refusal}
+use Rattle.frames.specs.Frame.{Frame, unknown, set_up_frame, release_frame, frame_by, frame_of, frame_in, line_refusal}
 use Rattle.frames.specs.Laws.{Digit, BytesLine, TheFrames}
 
 pub record Framed (line : List ℕ) : Type 0 where
@@ -76,8 +78,41 @@ line_refused line out = go _ refl
     go true e = absurd (out ((line_words line).0 e))
     go false e = refl
 
+-- ---- which bytes are which frame
+
+other_kind : (kind : ℕ) (fields : List ℕ) → (Within 1 4 kind → ⊥) → frame_by kind fields ≡ unknown
+other_kind kind fields out =
+    let ne : (n : ℕ) → 1 ≤ n → n ≤ 4 → eqb kind n ≡ false = λ n least most. ne_eqb kind n (λ e. out (rw e (least, most))) in
+    rw (ne 1 (omega arith) (omega arith), ne 2 (omega arith) (omega arith), ne 3 (omega arith) (omega arith), ne 4 (omega arith) (omega arith))
+
+other_set_up : (fields : List ℕ) → length fields ≢ 5 → set_up_frame fields ≡ unknown
+other_set_up [] ne = refl
+other_set_up (a ∷ []) ne = refl
+other_set_up (a ∷ b ∷ []) ne = refl
+other_set_up (a ∷ b ∷ c ∷ []) ne = refl
+other_set_up (a ∷ b ∷ c ∷ d ∷ []) ne = refl
+other_set_up (a ∷ b ∷ c ∷ d ∷ e ∷ []) ne = absurd (ne refl)
+other_set_up (a ∷ b ∷ c ∷ d ∷ e ∷ f ∷ fields) ne = refl
+
+other_release : (fields : List ℕ) → length fields ≢ 1 → release_frame fields ≡ unknown
+other_release [] ne = refl
+other_release (row ∷ []) ne = absurd (ne refl)
+other_release (row ∷ other ∷ fields) ne = refl
+
 pub the_frames : TheFrames
-the_frames = record { line = line_words }
+unfolding frame_of
+the_frames = record {
+  line = line_words;
+  set_up = λ k m high low g. rw (mul_comm 256 high);
+  write = λ row packets. refl;
+  release = λ row. refl;
+  read = λ list. refl;
+  empty = refl;
+  other = other_kind;
+  set_up_length = other_set_up;
+  write_length = refl;
+  release_length = other_release;
+}
 
 -- ---- a line that is a frame
 

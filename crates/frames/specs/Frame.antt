@@ -24,22 +24,22 @@ shown (Release row) = release row
 shown (Read list) = read list.now
 shown Unknown = unknown
 
--- The frame of each kind with these bytes behind its first. 01: K m P G, P in two bytes, high first.
+-- The frame of each kind with these bytes behind its first. 01: K, m, P (its high byte, its low one), G [frame.set-up].
 abbrev pub set_up_frame : (fields : List ℕ) → Frame
 set_up_frame (k ∷ m ∷ high ∷ low ∷ g ∷ []) = set_up (record { k = k; m = m; p = high * 256 + low; g = g })
 set_up_frame other = unknown
 
--- 02: row packets.
+-- 02: row packets [frame.write].
 abbrev pub write_frame : (fields : List ℕ) → Frame
 write_frame (row ∷ packets) = write row packets
 write_frame [] = unknown
 
--- 03: row.
+-- 03: row [frame.release].
 abbrev pub release_frame : (fields : List ℕ) → Frame
 release_frame (row ∷ []) = release row
 release_frame other = unknown
 
--- By the first byte: one of the four kinds, or unknown. 04 has nothing but the list of a cycle.
+-- By the first byte: one of the four kinds, or unknown. 04 has nothing but the list of a cycle [form.frame], [frame.read].
 abbrev pub frame_by : (kind : ℕ) → (fields : List ℕ) → Frame
 frame_by kind fields =
     if kind == 1 then set_up_frame fields
@@ -53,7 +53,7 @@ unfoldable pub frame_of : List ℕ → Frame
 frame_of (kind ∷ fields) = frame_by kind fields
 frame_of [] = unknown
 
--- 17, the line is empty, has an odd count of digits, a character other than 0-9 and a-f, or more than 4,096 characters.
+-- 17, unless a line has 1 to 4,096 characters, they are even in number, and each is one of 0-9 and a-f [session.hex].
 unfoldable pub line_refusal : (line : List ℕ) → Verdict
 line_refusal line =
     check 17 0 (between 1 MOST_CHARACTERS (length line) && length line % 2 == 0 && list_all is_digit line)
@@ -62,7 +62,7 @@ line_refusal line =
 abbrev pub frame_in : (line : List ℕ) → Frame
 frame_in line = if_refused unknown (frame_of (bytes_of line)) (line_refusal line)
 
--- The first byte of the answer to a frame: the frame's own and 80 hexadecimal; ff to what is none.
+-- The first byte of the answer to a frame: the frame's own and 80 hexadecimal; ff to what is none [session.answer].
 abbrev pub first_byte : Frame → ℕ
 first_byte (set_up shape) = 0x80 + 1
 first_byte (write row packets) = 0x80 + 2

@@ -11,7 +11,7 @@ use Rattle.lines.specs.Hex.{digits_of}
 abbrev pub refusal_said : Refusal → List ℕ
 refusal_said refusal = number_of refusal.reason ∷ (refusal.place / 256) ∷ (refusal.place % 256) ∷ []
 
--- A memory's answer in bytes: 00, its values, and packets, which a cycle alone puts out; or a refusal.
+-- A memory's answer in bytes: 00, its values, and packets, which a cycle alone puts out; or a refusal [session.answer].
 abbrev pub said : (packets : List ℕ) → Result Answer Refusal → List ℕ
 said packets (Ok answer) = 0 ∷ values_of answer ++ packets
 said packets (Err refusal) = refusal_said refusal

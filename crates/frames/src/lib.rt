@@ -11,18 +11,18 @@ use layout::Shape;
 use lines::hex;
 use refusals::{Answer, Reason, Refusal, Verdict, check, is_between};
 
-// The most characters of a line, and the bytes of the longest frame.
+// The most characters of a line, and the bytes of the longest frame [session.hex].
 pub const MOST_CHARACTERS: usize = 4096;
 
 pub const MOST_FRAME: usize = MOST_CHARACTERS / 2;
 
 // The bytes of a session's store, and room for any output line: of the first byte, 00 and an answer's values, at most two, and behind them
-// packets.
+// packets [session.store].
 pub const MOST_STORE: usize = 16384;
 
 pub const MOST_OUTPUT: usize = 2 * (4 + MOST_STORE) + 1;
 
-// Carries the bounds of lines and stores, and the law of lines. It does nothing.
+// Carries the bounds of lines and stores, and the laws of lines and of frames. It does nothing.
 #[tactic(auto, using(crate::proofs::Framed::the_frames))]
 pub fn the_frames()
     ensures bounds { TheBounds }
@@ -30,7 +30,7 @@ pub fn the_frames()
 {}
 
 // A frame, by its first byte, with what it carries; unknown where that byte or the length is wrong. The unknown ones are a kind of their
-// own, since the project's rules name this form.
+// own [form.frame].
 #[derive(Clone, Copy, Debug, PartialEq, Eq)]
 pub enum Frame<'a> {
     SetUp(Shape),
@@ -55,7 +55,7 @@ impl Frame<'_> {
     }
 }
 
-// The refusal of a line: 17.
+// The refusal of a line: 17 [session.hex].
 #[tactic(auto, unfolding(crate::specs::Frame::line_refusal))]
 pub fn judge_line(line: &[u8]) -> Verdict
     ensures { result ≡ line_refusal line.now }
@@ -66,7 +66,7 @@ pub fn judge_line(line: &[u8]) -> Verdict
     check(whole, Reason::NoHexadecimal, 0)
 }
 
-// The frame of each kind with these bytes behind its first. 01: K m P G, P in two bytes, high first.
+// The frame of each kind with these bytes behind its first. 01: K, m, P (its high byte, its low one), G.
 fn set_up_frame(fields: &[u8]) -> Frame<'_>
     ensures { shown result ≡ set_up_frame fields.now }
 {
@@ -101,8 +101,7 @@ fn release_frame(fields: &[u8]) -> Frame<'_>
     }
 }
 
-// The frame that bytes are: by the first of them one of the four kinds, or unknown, as the project's rules name this form. Each kind judges
-// its own fields.
+// The frame that bytes are: by the first of them one of the four kinds, or unknown [form.frame]. Each kind judges its own fields.
 #[tactic(auto, unfolding(crate::specs::Frame::frame_of))]
 pub fn frame_of(bytes: &[u8]) -> Frame<'_>
     ensures { shown result ≡ frame_of bytes.now }
@@ -143,7 +142,7 @@ fn print_both(front: &[u8], rest: &[u8], out: &mut [u8]) -> usize
 }
 
 // Prints the answer to a frame. The packets, which are read if it is of a cycle that is served, stand beside it, since an `Answer` has no
-// bytes.
+// bytes [session.answer].
 #[tactic(auto, using(crate::proofs::Printing::high_byte))]
 pub fn print_answer(
     frame: Frame<'_>,

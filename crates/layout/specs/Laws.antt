@@ -8,7 +8,7 @@ use Rattle.layout.specs.declared.TheConstants.{MOST_GROUPS, MOST_PACKET_BYTES, M
 use Rattle.layout.specs.Shape.{shape_refusal, InRange, banks, store_size, CellOf, offset}
 use Rattle.layout.specs.Name.{name_of}
 
--- What the code's constants have to be: K from 2 to 5, at most 8 groups, 2,048 bytes in a packet, 64 rows.
+-- What the code's constants have to be: K from 2 to 5, at most 8 groups, 2,048 bytes in a packet, 64 rows [shape.ranges].
 pub record TheBounds : Type 0 where
   pub symbols : (LEAST_SYMBOLS ≡ 2) × (MOST_SYMBOLS ≡ 5)
   pub groups : MOST_GROUPS ≡ 8
@@ -28,7 +28,7 @@ pub record WrongShape (shape : Shape) (verdict : Verdict) : Type 0 where
 
 -- Where the cells lie. first: the store begins with bank 1 of group 0, row 0. next_row, next_bank, next_group: the next row of a bank lies
 -- P bytes further on, the next bank of a group G * P, the next group N * G * P. last: the store ends with the last row of the last bank
--- of the last group.
+-- of the last group. Rule [store.cell].
 pub record ThePlaces (shape : Shape) : Type 0 where
   pub first : offset shape 0 1 0 ≡ 0
   pub next_row : (group bank row : ℕ) → offset shape group bank (suc row) ≡ offset shape group bank row + shape.p

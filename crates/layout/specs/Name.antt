@@ -3,7 +3,7 @@ use Rattle.std.specs.Prelude.{List, ℕ, ◌<◌, slice_index}
 use Rattle.layout.specs.declared.PacketName.{PacketName}
 use Rattle.layout.specs.declared.Shape.{Shape}
 
--- The packet that three bytes name: its row, its group and its symbol.
+-- The packet that three bytes name: its row, its group and its symbol [cycle.list].
 abbrev pub name_of : List ℕ → PacketName
 name_of bytes = record { row = slice_index bytes 0; group = slice_index bytes 1; symbol = slice_index bytes 2 }
 

@@ -8,7 +8,7 @@ use Rattle.simplex.specs.Code.{Packet}
 use Rattle.layout.specs.declared.Shape.{Shape}
 use Rattle.layout.specs.declared.TheConstants.{MOST_GROUPS, MOST_PACKET_BYTES, MOST_ROWS}
 
--- Set-up's refusals. 1, K outside 2 to 5. 2, m outside 1 to 8. 3, P outside 1 to 2,048. 4, G outside 1 to 64.
+-- Set-up's refusals, 1 to 4, of what is out of its range: K (2 to 5), m (1 to 8), P (1 to 2,048), G (1 to 64) [set-up.refusals].
 unfoldable pub shape_refusal : Shape → Verdict
 shape_refusal shape =
     check 1 0 (between LEAST_SYMBOLS MOST_SYMBOLS shape.k)
@@ -26,6 +26,7 @@ BytesInRange shape = (1 ≤ shape.p) × (shape.p ≤ MOST_PACKET_BYTES)
 abbrev pub RowsInRange : Shape → Type 0
 RowsInRange shape = (1 ≤ shape.g) × (shape.g ≤ MOST_ROWS)
 
+-- [shape.ranges]
 pub record InRange (shape : Shape) : Type 0 where
   pub symbols : SymbolsInRange shape.k
   pub groups : GroupsInRange shape
@@ -36,7 +37,7 @@ pub record InRange (shape : Shape) : Type 0 where
 abbrev pub banks : Shape → ℕ
 banks shape = banks_of shape.k
 
--- The bytes of the store, and of a generation.
+-- The bytes of the store, and of a generation [store.size], [shape.generation].
 unfoldable pub store_size : Shape → ℕ
 store_size shape = shape.m * banks shape * shape.g * shape.p
 
@@ -50,7 +51,7 @@ pub record CellOf (shape : Shape) (in_group bank in_row : ℕ) : Type 0 where
   pub last : bank ≤ banks shape
   pub row : in_row < shape.g
 
--- A bank of a group keeps a row from this byte of the store on.
+-- A bank of a group keeps a row from this byte of the store on [store.cell].
 unfoldable pub offset : Shape → (group bank row : ℕ) → ℕ
 offset shape group bank row = ((group * banks shape + bank - 1) * shape.g + row) * shape.p
 

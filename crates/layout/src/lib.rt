@@ -12,14 +12,14 @@ use simplex::{Group, LEAST_SYMBOLS, MOST_SYMBOLS};
 
 mod occupancy;
 
-// The most groups of a memory, bytes of a packet, and rows.
+// The most groups of a memory, bytes of a packet, and rows [shape.ranges].
 pub const MOST_GROUPS: usize = 8;
 
 pub const MOST_PACKET_BYTES: usize = 2048;
 
 pub const MOST_ROWS: usize = 64;
 
-// K symbols in a group, m groups, P bytes in a packet, G rows.
+// K symbols in a group, m groups, P bytes in a packet, G rows [shape.ranges].
 #[derive(Clone, Copy, Debug, Default, PartialEq, Eq)]
 pub struct Shape {
     pub k: usize,
@@ -58,7 +58,7 @@ pub fn the_layout()
     ensures occupancy { TheOccupancy }
 {}
 
-// Set-up's refusal of a shape: 1 to 4.
+// Set-up's refusal of a shape: 1 to 4 [set-up.refusals].
 #[tactic(auto, unfolding(crate::specs::Shape::shape_refusal))]
 pub fn judge_shape(shape: Shape) -> Verdict
     ensures { result ≡ shape_refusal shape }
@@ -103,7 +103,7 @@ impl TryFrom<Shape> for Geometry {
 }
 
 impl Geometry {
-    // The store's length.
+    // The store's length [store.size].
     #[tactic(auto, using(simplex::proofs::Tables::banks_of_lem), unfolding(crate::specs::Shape::store_size))]
     pub fn store_size(self) -> usize
         ensures { result ≡ store_size self.shape }
@@ -113,7 +113,7 @@ impl Geometry {
         shape.m * banks * shape.g * shape.p
     }
 
-    // The length of a generation.
+    // The length of a generation [shape.generation].
     #[tactic(auto, unfolding(crate::specs::Shape::generation_size))]
     pub fn generation_size(self) -> usize
         ensures { result ≡ generation_size self.shape }
@@ -122,7 +122,7 @@ impl Geometry {
         shape.m * shape.k * shape.p
     }
 
-    // Where a bank of a group keeps a row.
+    // Where a bank of a group keeps a row [store.cell].
     #[tactic(auto, using(simplex::proofs::Tables::banks_of_lem), unfolding(crate::specs::Shape::offset))]
     pub fn offset_of(self, group: usize, bank: usize, row: usize) -> usize
         requires { CellOf self.shape group bank row }

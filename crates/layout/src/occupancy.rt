@@ -5,7 +5,7 @@ ghost use Rattle.layout.specs.Occupancy.{is_full, is_empty, with_full, with_empt
 
 use crate::MOST_ROWS;
 
-// The rows of a memory, each full or empty: row r is full where bit r is 1. By default all are empty.
+// The rows of a memory, each full or empty: row r is full where bit r is 1. By default all are empty [state.content].
 #[derive(Clone, Copy, Debug, Default, PartialEq, Eq)]
 pub struct Rows {
     pub full: u64,

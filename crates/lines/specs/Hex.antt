@@ -15,7 +15,7 @@ small_a = 97
 abbrev pub small_f : ℕ
 small_f = 102
 
--- Whether a character is a digit: 0-9 or a-f.
+-- Whether a character is a digit: 0-9 or a-f [session.hex].
 abbrev pub is_digit : ℕ → Bool
 is_digit c = between char0 char9 c || between small_a small_f c
 

@@ -14,8 +14,8 @@ abbrev pub in_front : ℕ → List (List ℕ) → List (List ℕ)
 in_front c [] = (c ∷ []) ∷ []
 in_front c (line ∷ lines) = (c ∷ line) ∷ lines
 
--- The lines of a text: each is ended by a line feed, which the last may lack. An empty text has none, so a line feed at the very end
--- starts no further line.
+-- The lines of a text: what stands in front of each line feed, and what is left behind the last one. An empty text has none, so where the
+-- text ends with its line feed nothing is left [session.lines].
 unfoldable pub lines_of : List ℕ → List (List ℕ)
 lines_of [] = []
 lines_of (c ∷ text) = if c == line_feed then [] ∷ lines_of text else in_front c (lines_of text)

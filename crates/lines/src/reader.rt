@@ -1,4 +1,4 @@
-// The lines of a text, and a reader that holds the text and how far it has been read.
+// The lines of a text, and a reader of them.
 ghost use Rattle.std.specs.Prelude.{◌≡◌, [], IfSome, IfNone};
 ghost use Rattle.lines.specs.Lines.{line_end, line_found};
 ghost use Rattle.lines.specs.Reader.{left_of, FrontLine};
@@ -10,7 +10,7 @@ struct Line {
     next: usize,
 }
 
-// A text, and how far it has been read. The project's rules name this form, and the thin functions on it below.
+// A text, and where its next line starts. The functions on it are thin ones over others on slice and position [form.reader].
 #[derive(Clone, Copy, Debug, PartialEq, Eq)]
 pub struct Reader<'a> {
     text: &'a [u8],

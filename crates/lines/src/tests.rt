@@ -51,7 +51,10 @@ fn reader_of(interruptions: usize, fails_at: usize, kind: ErrorKind) -> Halting 
 fn reads_on_after_interruptions(rt: HostRuntime) -> Result<(), Fail> {
     for interruptions in [0, 1, 7] {
         let mut text = [b'-'; 15];
-        let len = read_text(reader_of(interruptions, 99, ErrorKind::Other), &mut text)?;
+        let len = read_text(
+            &mut reader_of(interruptions, 99, ErrorKind::Other),
+            &mut text,
+        )?;
         assert_eq!(rt; len, TEXT.len());
         assert_eq!(rt; &text, b"0301\n8300 \r\n---");
     }
@@ -61,7 +64,7 @@ fn reads_on_after_interruptions(rt: HostRuntime) -> Result<(), Fail> {
 #[test]
 fn stops_where_there_is_no_more_room(rt: HostRuntime) -> Result<(), Fail> {
     let mut text = [b'-'; 6];
-    let len = read_text(reader_of(1, 99, ErrorKind::Other), &mut text)?;
+    let len = read_text(&mut reader_of(1, 99, ErrorKind::Other), &mut text)?;
     assert_eq!(rt; len, 6usize);
     assert_eq!(rt; &text, b"0301\n8");
     Ok(())
@@ -72,7 +75,7 @@ fn gives_the_error_of_the_reader(rt: HostRuntime) {
     for kind in [ErrorKind::BrokenPipe, ErrorKind::TimedOut, ErrorKind::Other] {
         for fails_at in [0, 6, 12] {
             let mut text = [b'-'; 15];
-            let read = read_text(reader_of(2, fails_at, kind), &mut text);
+            let read = read_text(&mut reader_of(2, fails_at, kind), &mut text);
             assert!(rt;
                 read.is_err_and(|e| e.kind() == kind),
                 "{kind:?} at {fails_at}"

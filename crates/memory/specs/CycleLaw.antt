@@ -1,4 +1,4 @@
--- The cycle law: one claim about a whole read cycle, for any state, store, list and buffers, whoever made them.
+-- The cycle law: what is claimed of a read cycle, all at once, wherever its state, its list and its slices come from.
 use Rattle.std.specs.Prelude.{◌≡◌, ◌↔◌, true, List, ℕ, ◌≤◌, ◌<◌, length, Result, Ok}
 use Rattle.refusals.specs.declared.Refusal.{Refusal}
 use Rattle.refusals.specs.declared.Answer.{Answer}
@@ -16,8 +16,8 @@ use Rattle.cycle.specs.Served.{line, ServedRead, OpenedOnce}
 use Rattle.memory.specs.declared.State.{State}
 use Rattle.memory.specs.Operations.{store_refusal}
 
--- The form of a list of bytes is right: none of 5, 6, 13, 7, 14, 15 and 16 applies. These are the parts that the cycle's refusal is made
--- of.
+-- The form of a list of bytes is right: the parts of the cycle's refusal that give 5 and 6, 13, 7 with 14 and 15, and 16, all let it pass
+-- [promise.words].
 pub record RightForm (state : State) (size : ℕ) (list : List ℕ) (out schedule : ℕ) : Type 0 where
   pub store : store_refusal state size ≡ Accepted
   pub whole : length_refusal list ≡ Accepted
@@ -32,14 +32,14 @@ NamedRowsFull state reads = (n : ℕ) → n < length reads → is_full state.row
 abbrev pub NoneTooMany : Shape → Reads → Type 0
 NoneTooMany shape reads = (group : ℕ) → group < shape.m → length (symbols_read reads group) ≤ limit_of shape.k
 
--- The cycle is served: it isn't refused, and each read of the list is served.
+-- The cycle is served: so it answers, and so is each read of the list [promise.cycle].
 pub record ServedCycle (state : State) (store : List ℕ) (reads : Reads) (answer : Result Answer Refusal) (out schedule : List ℕ)
     : Type 0 where
   pub answered : answer ≡ Ok Served
   pub each : (n : ℕ) → n < length reads → ServedRead state.shape store reads out schedule n
 
--- This group is the lowest that has more than 2^(K-1) reads; and whichever disjoint bank sets of any size they are given, some set fails
--- its read.
+-- This group has too many reads, more than 2^(K-1), and none below it has: disjoint bank sets, of whatever size, fail at least one of them
+-- [promise.limit].
 pub record TooMany (shape : Shape) (reads : Reads) (group : ℕ) : Type 0 where
   pub below : group < shape.m
   pub many : limit_of shape.k < length (symbols_read reads group)
@@ -48,11 +48,12 @@ pub record TooMany (shape : Shape) (reads : Reads) (group : ℕ) : Type 0 where
       → SomeFails shape.k shape.p (symbols_read reads group) sets
 
 -- Of a cycle over a state, a store, a list and buffers of these lengths, that gave this answer and left this output and this schedule.
--- exactly: of the right form and with every named row full, it is served exactly when no group has more than 2^(K-1) reads.
--- served, yields, once: where it answers that it is served, each read is; for every content, what the code puts into its line's banks
--- XORs to its packet; and no bank is opened twice.
--- limit: of a group with more than 2^(K-1) reads, whichever disjoint bank sets of any size they are given, some set fails its read.
--- refused: so it is with the group at the place that 12 gives, and that is the lowest with too many.
+-- exactly: where the form is right and the named rows are full, it is served just where every group keeps to the limit.
+-- served, yields, once: where it answers that it is served, each read is; the banks of its line yield its symbol; and no two reads of a
+-- group open the same bank.
+-- limit: where a group's reads pass 2^(K-1), disjoint bank sets, of whatever size, fail at least one of them.
+-- refused: 12 names such a group, and the lowest.
+-- Rules [promise.cycle], [promise.limit].
 pub record CycleLaw (state : State) (store list : List ℕ) (out_size schedule_size : ℕ) (answer : Result Answer Refusal)
     (out schedule : List ℕ) : Type 0 where
   pub exactly : RightForm state (length store) list out_size schedule_size → NamedRowsFull state (reads_in list)

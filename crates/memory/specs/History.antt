@@ -123,8 +123,8 @@ pub record UpdatedIn (shape : Shape) (history : History) (memory : Memory) (name
 -- count: as many rows are full as accepted writes have filled less those that accepted releases have emptied.
 -- answers: the next operation is refused as the history says; accepted, each but a read cycle answers the number of rows that are full
 -- with it.
--- updates: an update that is accepted leaves what a fresh write of its group's edited packets gives.
--- returns: a read cycle that is served returns, in the order asked, the packet last written at each read's row, group and symbol; that
+-- updates: an update that is accepted leaves what writing its group anew, with the edited packets, would leave.
+-- returns: a read cycle that is served returns, in the list's order, the packet last written at each read's row, group and symbol; that
 -- row is full.
 pub record Remembers (shape : Shape) (history : History) (memory : Memory) : Type 0 where
   pub agrees : Agrees shape (known_in shape history) memory
@@ -136,7 +136,7 @@ pub record Remembers (shape : Shape) (history : History) (memory : Memory) : Typ
       → (n : ℕ) → n < length (reads_in list) → let name = read_at (reads_in list) n in
       (full_in shape history name.row ≡ true) × Returned shape memory list out schedule n name (last_written shape history name.row)
 
--- So it is after every history, from an accepted set-up and any store of the right length.
+-- So it is after every history, from an accepted set-up and any store of the right length [promise.recall].
 abbrev pub RecallLaw : Type 0
 RecallLaw =
     (shape : Shape) → shape_refusal shape ≡ Accepted → (store : List ℕ) → length store ≡ store_size shape → (history : History)

@@ -35,7 +35,7 @@ pub record StateLaws : Type 0 where
 
 -- ---- set-up
 
--- A state of zeros, with no row full.
+-- Its numbers are all 0, and it has no full row.
 pub record Zeros (state : State) : Type 0 where
   pub shape : (state.shape.k ≡ 0) × (state.shape.m ≡ 0) × (state.shape.p ≡ 0) × (state.shape.g ≡ 0)
   pub rows : (row : ℕ) → is_full state.rows row ≡ false
@@ -47,7 +47,7 @@ pub record FreshMemory (shape : Shape) (outcome : Outcome) : Type 0 where
   pub answer : outcome.answer ≡ Ok (Ready (shape.m * (2 ^ shape.k - 1)) (2 ^ (shape.k - 1)))
 
 -- fresh, refused: in words, what a set-up of a shape in the ranges gives, and with which number another is refused. zeros: refused, it
--- gives a state of zeros.
+-- gives such a state. Rules [set-up.state] to [set-up.refusals].
 pub record SetUpLaws : Type 0 where
   pub fresh : (shape : Shape) → InRange shape → FreshMemory shape (set_up_of shape)
   pub refused : (shape : Shape) → WrongShape shape (verdict_of (set_up_of shape).answer)
@@ -82,6 +82,7 @@ pub record WrongWrite (state : State) (size row len : ℕ) (verdict : Verdict) :
 
 -- accepted, refused: in words, when a write is accepted, and with which number it is refused. written: accepted, it makes its row full,
 -- answers the number of full rows, and sets the cells of that row alone. kept: refused, it leaves the store and the state.
+-- Rules [write.cells] to [write.refusals].
 pub record WriteLaws : Type 0 where
   pub accepted : (state : State) (size row len : ℕ) → (write_refusal state size row len ≡ Accepted) ↔ RightWrite state size row len
   pub refused : (state : State) (size row len : ℕ) → Sound state → WrongWrite state size row len (write_refusal state size row len)
@@ -114,7 +115,7 @@ pub record WrongUpdate (state : State) (size : ℕ) (name : PacketName) (len : �
 
 -- accepted, refused: in words, when an update is accepted, and with which number it is refused. updated: accepted, it gives the state as
 -- it was and the number of its full rows, and changes the cells of its group's banks that hold the symbol, in its row, alone. kept:
--- refused, it leaves the store and the state.
+-- refused, it leaves the store and the state. Rules [update.cells] to [update.refusals].
 pub record UpdateLaws : Type 0 where
   pub accepted : (state : State) (size : ℕ) (name : PacketName) (len : ℕ)
       → (update_refusal state size name len ≡ Accepted) ↔ RightUpdate state size name len
@@ -143,7 +144,7 @@ pub record WrongRelease (state : State) (row : ℕ) (verdict : Verdict) : Type 0
   pub nine : row < state.shape.g → is_empty state.rows row ≡ true → verdict ≡ refused 9 0
 
 -- accepted, refused: in words, when a release is accepted, and with which number it is refused. released: accepted, it makes a full row
--- empty, and answers the number of full rows. kept: refused, it leaves the state.
+-- empty, and answers the number of full rows. kept: refused, it leaves the state. Rules [release.row] to [release.refusals].
 pub record ReleaseLaws : Type 0 where
   pub accepted : (state : State) (row : ℕ) → (release_refusal state row ≡ Accepted) ↔ RightRelease state row
   pub refused : (state : State) (row : ℕ) → Sound state → WrongRelease state row (release_refusal state row)
@@ -195,11 +196,11 @@ ReleasedSingly before (row ∷ rows) after =
     (release_refusal before row ≡ Accepted) × ReleasedSingly (release_outcome before row).state rows after
 
 -- accepted: in words, when a release of a row set is accepted. emptied: accepted, it empties its rows and no other, and answers the number
--- of full rows. kept: refused, it leaves the state. empty: the empty set is accepted, and nothing changes.
--- seven, nine: it is refused with 7 at a row just where that is its first row that is G or more; with 9 just where there is none, and the
--- row is its first empty one.
+-- of full rows. kept: refused, it leaves the state. empty: a set of no row is accepted, and nothing changes.
+-- seven, nine: it is refused with 7 at a row just where that is the first of its rows that is not there; with 9 just where all are there,
+-- and the row is its first empty one.
 -- singly: single releases of its rows, in whichever order, are each accepted and end in a state just where it is accepted and ends there.
--- named: every set has a list of its rows, so that the law before is about something.
+-- named: every set has a list of its rows, so that the law before is about something. Rules [release-set.marks] to [release-set.refusals].
 pub record ReleaseSetLaws : Type 0 where
   pub accepted : (state : State) (set : ℕ) → (release_set_refusal state set ≡ Accepted) ↔ RightReleaseSet state set
   pub emptied : (state : State) (set : ℕ) → set < 2 ^ MOST_ROWS → release_set_refusal state set ≡ Accepted
@@ -243,6 +244,7 @@ pub record FormInWords (state : State) (size : ℕ) (list : List ℕ) (out sched
 
 -- accepted, refused: in words, when a read cycle is accepted, and with which number and place it is refused.
 -- form: the right form that `CycleLaw` speaks of is the one in words. kept: refused, it leaves the output, the schedule and the state.
+-- Rules [cycle.refusals], [promise.words].
 pub record CycleLaws : Type 0 where
   pub accepted : (state : State) (size : ℕ) (list : List ℕ) (out schedule : ℕ)
       → (cycle_refusal state size list out schedule ≡ Accepted) ↔ RightCycle state size list out schedule

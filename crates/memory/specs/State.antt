@@ -8,11 +8,11 @@ use Rattle.layout.specs.Occupancy.{all_empty, with_full, with_empty, without, fu
 use Rattle.layout.specs.Shape.{shape_refusal, InRange}
 use Rattle.memory.specs.declared.State.{State}
 
--- The number of full rows: in a state that is not broken none from G on is full.
+-- The number of full rows: in a state that is not broken none from G on is full [answer.full-rows].
 abbrev pub full_rows : State → ℕ
 full_rows state = full_count state.rows MOST_ROWS
 
--- Whether a state is not broken: it keeps set-up's ranges, and no row from G on is full.
+-- Whether a state is not broken: it keeps set-up's ranges, and no row from G on is full [state.broken].
 unfoldable pub sound : State → Bool
 sound state = is_ok (shape_refusal state.shape) && none_from state.rows state.shape.g
 

@@ -18,15 +18,15 @@ use layout::{Geometry, PacketName, Rows, Shape, Store};
 use refusals::{Answer, Reason, Refusal, Verdict, check, refused};
 use simplex::Group;
 
-// What a memory's operations are given and give back.
+// What a memory's operations are given and give back [state.content], [form.state].
 #[derive(Clone, Copy, Debug, Default, PartialEq, Eq)]
 pub struct State {
     pub shape: Shape,
     pub rows: Rows,
 }
 
-// What an operation gives: the state, and its answer or refusal. The state comes back refused or not, as the project's rules say, so it
-// stands beside the `Result`: refused, it is the one that was given, and after a refused set-up one of zeros.
+// What an operation gives: the state, and its answer or refusal. The state comes back refused or not, so it stands beside the `Result`:
+// refused, it is the one that was given, and after a refused set-up one of zeros.
 #[derive(Clone, Copy, Debug, PartialEq, Eq)]
 pub struct Outcome {
     pub state: State,
@@ -89,8 +89,8 @@ impl State {
         }
     }
 
-    // Sets up a memory with every row empty, and answers how many banks it has in all and the most reads of a group in a cycle; or refuses
-    // the shape: 1 to 4.
+    // Sets up a memory with every row empty, and answers how many banks it has in all and how many reads a group serves at most; or
+    // refuses the shape: 1 to 4 [set-up.state] to [set-up.refusals].
     pub fn set_up(shape: Shape) -> Outcome
         ensures { result ≡ set_up_of shape }
     {
@@ -149,7 +149,7 @@ impl State {
         Ok(self.with_rows(self.rows.with_full(row)))
     }
 
-    // Writes a generation, m·K packets, to an empty row, which it makes full; or refuses: 5, 6, 7, 8, 10.
+    // Writes a generation, m·K packets, to an empty row, which it makes full; or refuses: 5, 6, 7, 8, 10 [write.cells] to [write.refusals].
     #[tactic(auto, using(crate::proofs::States::outcome))]
     pub fn write(self, store: &mut [u8], row: usize, generation: &[u8]) -> Outcome
         ensures outcome { result ≡ write_outcome self
@@ -173,9 +173,9 @@ impl State {
         Ok(self)
     }
 
-    // Changes one packet of a full row (customers say: a patch): the old packet, which is the one in the symbol's systematic bank, and
-    // the new one are XORed into each of the 2^(K-1) banks of the group that hold the symbol, in that row. The state stays as it is. Or
-    // refuses: 5, 6, 7, 14, 15, 9, 10.
+    // Changes one packet of a full row (customers say: a patch). In that row the XOR of two packets, the one that the systematic bank
+    // has and the new one, is XORed into the cells of the group's 2^(K-1) banks with that symbol. The state stays as it is. Or
+    // refuses: 5, 6, 7, 14, 15, 9, 10 [update.cells] to [update.refusals].
     #[tactic(auto, using(crate::proofs::States::outcome))]
     pub fn update(self, store: &mut [u8], name: PacketName, packet: &[u8]) -> Outcome
         ensures outcome { result ≡ update_outcome self (length store.old) name (length packet.now) }
@@ -195,7 +195,7 @@ impl State {
         Ok(self.with_rows(self.rows.with_empty(row)))
     }
 
-    // Makes a full row empty; or refuses: 5, 7, 9. No byte of a store changes: it is given none.
+    // Makes a full row empty; or refuses: 5, 7, 9. No byte of a store changes: it is given none [release.row] to [release.refusals].
     #[tactic(auto, using(crate::proofs::States::outcome))]
     pub fn release(self, row: usize) -> Outcome
         ensures { result ≡ release_outcome self row }
@@ -203,7 +203,7 @@ impl State {
         Outcome::of(self, self.try_release(row))
     }
 
-    // The state after a release of a row set, or its refusal: 5; 7 at its first row that is G or more; then 9 at its first empty row.
+    // The state after a release of a row set, or its refusal: 5; 7 at its first row that is not there; then 9 at its first empty row.
     #[tactic(auto, using(crate::proofs::Emptying::there_by_set))]
     fn try_release_set(self, set: u64) -> Result<State, Refusal>
         ensures { result ≡ answer_by (rows_emptied self set) (release_set_refusal self set) }
@@ -214,8 +214,8 @@ impl State {
         Ok(self.with_rows(self.rows.without(set)))
     }
 
-    // Makes every row of a set empty, row r's mark being bit r. Or refuses, and then none is: 5; 7 at its first row that is G or more;
-    // then 9 at its first empty row. No byte of a store changes: it is given none.
+    // Makes every row of a set empty: row r where bit r is set. Or refuses, and then none is: 5; 7 at its first row that is not there;
+    // then 9 at its first empty row. No byte of a store changes: it is given none [release-set.marks] to [release-set.refusals].
     #[tactic(auto, using(crate::proofs::States::outcome))]
     pub fn release_set(self, set: u64) -> Outcome
         ensures { result ≡ release_set_outcome self set }
@@ -251,7 +251,7 @@ impl State {
     // Serves a list of reads (customers say: asks; three bytes each: row, group, symbol) in one cycle: the packets to the output, P bytes
     // each, and the banks opened for each to the schedule (customers say: the sheet), two bytes each, systematic banks alone in a group
     // where no symbol is read more than once; or refuses: 5, 6, 13, read by read 7, 14, 15, 9, then 12, 16. The store is lent for reading
-    // only.
+    // only [cycle.list] to [cycle.refusals], [promise.cycle].
     #[tactic(auto, using(crate::proofs::Cycles::cycle_law))]
     pub fn read_cycle(
         self,

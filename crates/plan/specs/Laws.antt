@@ -15,7 +15,7 @@ pub record ServableByFew (K P : ℕ) (reads : List ℕ) : Type 0 where
   pub servable : Servable K P reads
   pub few : (n : ℕ) → n < length reads → let set = slice_index_or servable.sets n [] in (length set ≡ 1) ⊎ (length set ≡ 2)
 
--- What refuses a request: as of every request vector; then 12, where the counts total more than the limit.
+-- What refuses a request: as of every request vector; then 12, where its reads pass the limit.
 pub record WrongRequest (K : ℕ) (counts : List ℕ) (verdict : Verdict) : Type 0 where
   pub vector : WrongCounts K counts verdict
   pub twelve : RequestOf K counts → limit_of K < sum counts → verdict ≡ refused 12 0

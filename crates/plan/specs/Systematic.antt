@@ -16,6 +16,6 @@ collision_free (c ∷ counts) = nat_le c 1 && collision_free counts
 abbrev pub systematic_pair : (symbol : ℕ) → Pair
 systematic_pair symbol = record { a = 2 ^ symbol; b = 0 }
 
--- That pair for each read.
+-- That pair for each read [plan.systematic].
 abbrev pub systematic_plan : List ℕ → List Pair
 systematic_plan counts = map systematic_pair (reads_of counts)

@@ -10,7 +10,7 @@ use Rattle.layout.specs.Name.{name_of}
 abbrev pub Reads : Type 0
 Reads = List PacketName
 
--- The reads of a list of bytes. What is left of fewer than three bytes is no read.
+-- The reads of a list of bytes. What is left of fewer than three bytes is no read [cycle.list].
 abbrev pub reads_in : List ℕ → Reads
 reads_in [] = []
 reads_in (row ∷ []) = []
@@ -32,15 +32,15 @@ read_at reads n = slice_index_or reads n no_read
 abbrev pub is_for : (group symbol : ℕ) → PacketName → Bool
 is_for group symbol read = (read.group == group) && (read.symbol == symbol)
 
--- How many reads are for it. Equal reads count separately.
+-- How many reads are for it. Equal reads count separately [cycle.list].
 abbrev pub count_of : Reads → (group symbol : ℕ) → ℕ
 count_of reads group symbol = count_by (is_for group symbol) reads
 
--- The counts of a group, over the whole list and so over all rows.
+-- The counts of a group, over the whole list and so over all rows [cycle.counts].
 abbrev pub counts_of : Reads → (group : ℕ) → List ℕ
 counts_of reads group = map (count_of reads group) (range_with_len 0 MOST_SYMBOLS)
 
--- The reads of a group, each by its symbol, in their order.
+-- The reads of a group, each by its symbol, in their order [promise.words].
 abbrev pub symbols_read : Reads → (group : ℕ) → List ℕ
 symbols_read reads group = map (λ read. read.symbol) (filter (λ read. read.group == group) reads)
 

@@ -13,7 +13,7 @@ Verdict = Result (Unit {0}) Refusal
 pattern abbrev pub Accepted : Verdict
 Accepted = Ok tt
 
--- The number of the refusals for a reason.
+-- The number of the refusals for a reason [form.answer].
 abbrev pub number_of : Reason → ℕ
 number_of reason.SymbolsOutOfRange = 1
 number_of reason.GroupsOutOfRange = 2
@@ -73,7 +73,7 @@ abbrev pub refused : {A : Type 0} (number place : ℕ) → Result A Refusal
 refused number place = Err (refusal_of number place)
 
 -- The values of each answer: of a set-up, the banks of all groups and the most reads of one; the number of full rows; of a read cycle
--- none.
+-- none [form.answer].
 abbrev pub values_of : Answer → List ℕ
 values_of (Ready banks most_reads) = banks ∷ most_reads ∷ []
 values_of (FullRows rows) = rows ∷ []
@@ -88,7 +88,7 @@ abbrev pub check : (number place : ℕ) → Bool → Verdict
 check number place true = Accepted
 check number place false = refused number place
 
--- The first where the verdict is a refusal, else the second.
+-- The first where the verdict is a refusal, else the second [refusal.unchanged].
 abbrev pub if_refused : {A : Type 0} → (before after : A) → Verdict → A
 if_refused before after Accepted = after
 if_refused before after (Err refusal) = before
@@ -104,7 +104,7 @@ verdict_of (Ok value) = Accepted
 verdict_of (Err refusal) = Err refusal
 
 infixr 20 ◌then◌
--- The first refusal of the two.
+-- The first refusal of the two [refusal.first].
 abbrev pub ◌then◌ : Verdict → Verdict → Verdict
 Accepted then next = next
 Err refusal then next = Err refusal

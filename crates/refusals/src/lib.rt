@@ -9,7 +9,7 @@ ghost use Rattle.refusals.specs.Laws.{TheNumbers};
 use std::error::Error;
 use std::fmt;
 
-// Why an operation says no, in the order of the refusals' numbers, from 1 to 20.
+// Why an operation says no, in the order of the refusals' numbers, from 1 to 20 [refusal.1] to [refusal.20].
 #[derive(Clone, Copy, Debug, PartialEq, Eq)]
 pub enum Reason {
     SymbolsOutOfRange = 1,
@@ -34,15 +34,15 @@ pub enum Reason {
     StoreTooLarge,
 }
 
-// A refusal: its reason and its place.
+// A refusal: its reason and its place [refusal.place].
 #[derive(Clone, Copy, Debug, PartialEq, Eq)]
 pub struct Refusal {
     pub reason: Reason,
     pub place: usize,
 }
 
-// What an accepted operation answers. A set-up: the banks of all groups, and the most reads of one in a cycle. An operation that changes
-// the state or the store: the number of full rows. A read cycle: that it is served.
+// What an accepted operation answers. A set-up: the banks of all groups, and the limit of one. A write, an update, a release: how many rows
+// are full with it. A read cycle: that it is served [form.answer].
 #[derive(Clone, Copy, Debug, PartialEq, Eq)]
 pub enum Answer {
     Ready { banks: usize, most_reads: usize },

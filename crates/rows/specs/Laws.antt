@@ -26,9 +26,9 @@ GroupHeld shape row group generation store =
 
 -- Of a store and the store after a generation was written to a row, whatever the store held.
 -- cells: each cell of the row, in all groups, is what the code puts there for the generation's packets.
--- copies: of a bank of degree one it is the bank's packet. steps: of a bank of degree two or more it is the XOR of two sources, the cell of
--- the bank without its highest symbol, in the same row, and that symbol's packet.
--- others: every other byte is as it was.
+-- copies: of a bank of degree one it is the bank's packet. steps: of every other it is the XOR of two sources, the packet of the highest
+-- symbol and, in the same row, the cell of the bank of the other symbols.
+-- others: every other byte is as it was. Rules [write.cells], [write.steps].
 pub record Written (shape : Shape) (row : ℕ) (generation store after : List ℕ) : Type 0 where
   pub size : length after ≡ length store
   pub cells : (group b : ℕ) → CellOf shape group b row
@@ -39,8 +39,9 @@ pub record Written (shape : Shape) (row : ℕ) (generation store after : List �
       ≡ xor_bytes (cell_at shape after group (without_highest b) row) (packet_in shape generation group (highest_of b))
   pub others : (byte : ℕ) → OutsideRow shape row byte → slice_index after byte ≡ slice_index store byte
 
--- Of a store and the store after an update of the packet of a symbol of a group in a row, whatever the store held: into the cell of each
--- bank of the group that holds the symbol, in that row, the old packet and the new one are XORed, and every other byte is as it was.
+-- Of a store and the store after an update of the packet of a symbol of a group in a row, whatever the store held: in that row, the cells
+-- of the group's banks that hold the symbol change by the XOR of the systematic bank's cell and the new packet; no other byte does
+-- [update.cells].
 pub record Updated (shape : Shape) (row group symbol : ℕ) (packet store after : List ℕ) : Type 0 where
   pub size : length after ≡ length store
   pub cells : (b : ℕ) → CellOf shape group b row → has_symbol b symbol ≡ true → cell_at shape after group b row
@@ -69,7 +70,7 @@ pub record TheGeneration (shape : Shape) : Type 0 where
       ≡ slice_index generation (packet_place shape group symbol + byte)
 
 -- order: in which order a generation's packets stand.
--- packets: a packet of a group stands where a generation with the packets of group 0 in symbol order, then group 1, and so on, has it.
+-- packets: the packets of a group, cut from its part of the generation, are those that stand at their places.
 -- written: a generation written to a row sets the cells of that row alone.
 -- updated: an update changes the cells of its group's banks that hold the symbol, in that row, alone. editing: an edited generation has the
 -- new packet in its place, and every other packet as it was.

@@ -7,7 +7,7 @@ use Rattle.simplex.specs.Updating.{symbol_updated}
 use Rattle.layout.specs.declared.Shape.{Shape}
 use Rattle.layout.specs.Shape.{banks, offset}
 
--- The packets of a group: a generation has those of group 0 in symbol order, then those of group 1, and so on.
+-- The packets of a group: its K·P bytes of the generation, behind those of the groups before it, cut by symbol [shape.generation].
 abbrev pub packets_in : Shape → List ℕ → ℕ → List Packet
 packets_in shape generation group = packets_of shape.p shape.k (cell generation (group * (shape.k * shape.p)) (shape.k * shape.p))
 
@@ -29,12 +29,12 @@ groups_written shape row generation zero store = store
 groups_written shape row generation (suc n) store =
     group_written shape n row (packets_in shape generation n) (groups_written shape row generation n store)
 
--- The same for all m groups: the store after a write.
+-- The same for all m groups: the store after a write [write.cells].
 abbrev pub row_written : Shape → (row : ℕ) → (generation store : List ℕ) → List ℕ
 row_written shape row generation store = groups_written shape row generation shape.m store
 
--- The store after an update of the packet of a symbol of a group in a row (customers say: a patch): the old packet, which is the one in its
--- systematic bank, and the new one are XORed into the cell of each bank of the group that holds the symbol, in that row.
+-- The store after an update of the packet of a symbol of a group in a row (customers say: a patch): in that row, the packet of the
+-- systematic bank and the new one are both XORed into the cells of the group's banks that hold the symbol [update.cells].
 abbrev pub packet_updated : Shape → (row group symbol : ℕ) → Packet → (store : List ℕ) → List ℕ
 packet_updated shape row group symbol packet store =
     symbol_updated shape.p symbol packet (λ b. offset shape group b row) (banks shape) store

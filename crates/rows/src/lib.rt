@@ -29,8 +29,8 @@ fn spacing_of(geometry: Geometry, group: usize, row: usize) -> Spacing
     }
 }
 
-// Sets the cells of all banks of all groups in a row, from a generation. The store comes beside its geometry, here and below, and not in a
-// struct with it: what a struct with a `&mut` leaves in the store, a clause could say only as `exit`.
+// Sets the cells of all banks of all groups in a row, from a generation [write.cells]. The store comes beside its geometry, here and below,
+// and not in a struct with it: what a struct with a `&mut` leaves in the store, a clause could say only as `exit`.
 #[tactic(auto, using(crate::proofs::Chunks::begun))]
 pub fn write_row(store: &mut [u8], geometry: Geometry, row: usize, generation: &[u8])
     requires place { row < geometry.shape.g }
@@ -44,7 +44,7 @@ pub fn write_row(store: &mut [u8], geometry: Geometry, row: usize, generation: &
     }
 }
 
-// Updates a packet in every bank of its group that holds it, in its row.
+// Updates a packet in every bank of its group that holds it, in its row [update.cells].
 pub fn update_packet(store: &mut [u8], geometry: Geometry, name: PacketName, packet: &[u8])
     requires place { PacketOf geometry.shape name }
     requires store_len { length store.old ≡ store_size geometry.shape }

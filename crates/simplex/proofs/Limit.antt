@@ -1,4 +1,4 @@
--- The limit: no more than 2^(K-1) reads of a group are served by bank sets of which no two share a bank.
+-- The limit: disjoint bank sets serve at most 2^(K-1) reads of a group.
 --
 -- In the content whose every byte is 1, a bank holds the parity of its degree. A set whose XOR is a packet there has a bank of odd degree. Such a
 -- bank is known from its number without the lowest bit, which is below 2^(K-1): so more sets than that cannot all have one.

@@ -1,4 +1,4 @@
--- Running XOR gives the code's banks: a bank is the bank without its highest symbol XOR that symbol's packet.
+-- Running XOR gives the code's banks: a bank is the XOR of its highest symbol's packet and the bank of its other symbols.
 use mathlib.Core.Path.{◌≡◌, refl, sym, ap, ◌∙◌}
 use mathlib.Core.Logic.{◌≢◌, ◌⊎◌, inl, inr, ⊎_elim}
 use mathlib.Core.Bool.{Bool, true, false}

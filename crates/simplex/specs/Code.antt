@@ -8,12 +8,12 @@ use Rattle.cells.specs.Xor.{xor_all}
 abbrev pub Packet : Type 0
 Packet = List ℕ
 
--- Every packet has P bytes.
+-- The packets have P bytes each.
 abbrev pub Sized : (P : ℕ) → List Packet → Type 0
 Sized P [] = Unit {0}
 Sized P (p ∷ packets) = (length p ≡ P) × Sized P packets
 
--- A content of a group: any K packets of P bytes. A byte is a number below 256.
+-- A content of a group: K packets, of P bytes each, whatever is in them. A byte is a number below 256 [promise.words].
 pub record Content (K P : ℕ) (packets : List Packet) : Type 0 where
   pub count : length packets ≡ K
   pub sized : Sized P packets
@@ -24,12 +24,12 @@ abbrev pub keep_if : ℕ → Packet → List Packet → List Packet
 keep_if zero p packets = packets
 keep_if (suc d) p packets = p ∷ packets
 
--- Exactly those packets i for which bit i of b is 1. The first packet given has the number i.
+-- Of packets that are numbered from i on, those whose bit of b is set.
 abbrev pub chosen : (b i : ℕ) → List Packet → List Packet
 chosen b i [] = []
 chosen b i (p ∷ packets) = keep_if (bit b i) p (chosen b (suc i) packets)
 
--- What bank b holds: byte by byte, the XOR of exactly those packets i for which bit i of b is 1.
+-- What bank b holds: the packets that its bits choose, XORed byte by byte [bank.content].
 abbrev pub bank_cell : (P : ℕ) → List Packet → (b : ℕ) → Packet
 bank_cell P packets b = xor_all P (chosen b 0 packets)
 
@@ -37,7 +37,7 @@ bank_cell P packets b = xor_all P (chosen b 0 packets)
 abbrev pub Banks : Type 0
 Banks = List ℕ
 
--- The XOR of what the code puts into the banks of a set.
+-- What the banks of a set hold, XORed.
 abbrev pub xor_of_banks : (P : ℕ) → List Packet → Banks → Packet
 xor_of_banks P packets banks = xor_all P (map (bank_cell P packets) banks)
 
@@ -46,7 +46,7 @@ abbrev pub xor_of_numbers : Banks → ℕ
 xor_of_numbers [] = 0
 xor_of_numbers (b ∷ banks) = bit_xor b (xor_of_numbers banks)
 
--- A set of banks yields a symbol: for every content, the XOR of what the code puts into those banks is the symbol's packet.
+-- A set of banks yields a symbol: whatever the content, what they hold XORs to the symbol's packet [promise.words].
 abbrev pub Yields : (K P : ℕ) → Banks → (symbol : ℕ) → Type 0
 Yields K P banks symbol =
     (packets : List Packet) → Content K P packets → xor_of_banks P packets banks ≡ slice_index_or packets symbol []

@@ -12,8 +12,8 @@ unfoldable pub packets_of : (P K : ℕ) → List ℕ → List Packet
 packets_of P zero bytes = []
 packets_of P (suc K) bytes = take P bytes ∷ packets_of P K (drop P bytes)
 
--- What a step of running XOR gives for bank b, from two sources alone: the cell of the bank without its highest symbol, whatever that
--- cell holds in the store as it stands, and that symbol's packet.
+-- What a step of running XOR gives for bank b. It has two sources and no third: the packet of b's highest symbol, and what the store has,
+-- right or wrong, in the cell of the bank of b's other symbols [write.steps].
 abbrev pub running_xor : (P : ℕ) → Packet → (place : ℕ → ℕ) → (store : List ℕ) → (b : ℕ) → Packet
 running_xor P packet place store b = xor_bytes (cell store (place (without_highest b)) P) packet
 
@@ -22,8 +22,8 @@ abbrev pub running_step : (P : ℕ) → (packets : List ℕ) → (place : ℕ �
 running_step P packets place b store =
     put store (place b) (running_xor P (cell packets (highest_of b * P) P) place store b)
 
--- What bank b is filled with, for a group of these packets: a bank of degree one with a copy of its packet, and one of degree two or more
--- with what a step of running XOR gives.
+-- What bank b is filled with, for a group of these packets: a bank of degree one with a copy of its packet, and every other with what a
+-- step of running XOR gives [write.steps].
 abbrev pub bank_filled : (P : ℕ) → List Packet → (place : ℕ → ℕ) → (store : List ℕ) → (b : ℕ) → Packet
 bank_filled P packets place store b =
     let packet = slice_index_or packets (highest_of b) [] in

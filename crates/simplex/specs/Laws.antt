@@ -12,7 +12,7 @@ use Rattle.simplex.specs.Banks.{spaced, Room, each_bank, BanksSet}
 use Rattle.simplex.specs.Filling.{packets_of, filled, running_step, Fillable}
 use Rattle.simplex.specs.Updating.{bank_updated, symbol_updated}
 
--- The fixed table, by K: the banks of a group, and the most reads of a group in a cycle.
+-- The fixed table: for each K, how many banks a group has, and its limit [shape.groups].
 pub record TheFixedTable : Type 0 where
   pub two : (banks_of 2 ≡ 3) × (limit_of 2 ≡ 2)
   pub three : (banks_of 3 ≡ 7) × (limit_of 3 ≡ 4)
@@ -22,6 +22,7 @@ pub record TheFixedTable : Type 0 where
 -- linear: the XOR of the cells of banks a and b is the cell of a XOR b.
 -- two: if a XOR b = 2^i, the two cells XOR to packet i. alone: the systematic bank 2^i (customers say: a single bank) holds packet i.
 -- yields: a set of banks whose numbers XOR to 2^i yields symbol i. fails: a set of banks that fails a symbol does not yield it.
+-- Rules [bank.content], [bank.systematic], [promise.over-k].
 pub record TheCode : Type 0 where
   pub linear : (P : ℕ) (packets : List Packet) → Sized P packets → (a b : ℕ)
       → xor_bytes (bank_cell P packets a) (bank_cell P packets b) ≡ bank_cell P packets (bit_xor a b)
@@ -38,12 +39,12 @@ odd_banks zero = 0
 odd_banks (suc n) = degree_of (suc n) % 2 + odd_banks n
 
 -- numbers: a group's banks are numbered from 1 to 2^K - 1.
--- degree: the degree of a bank is the number of its symbols.
+-- degree: a bank's degree is how many symbols it holds.
 -- holders: exactly 2^(K-1) of the banks, which are numbered from 1, hold symbol i. odd: exactly 2^(K-1) of them have odd degree.
 -- highest: a bank holds its highest symbol and none above it. rest: the number without that symbol holds the bank's other symbols and no
 -- more.
 -- lower: where a bank has degree two or more, that number is a bank with a lower number, of one degree less.
--- kinds: a bank of lower degree is systematic.
+-- kinds: a bank of lower degree is systematic. Rules [bank.degree], [promise.over-k].
 pub record TheSymbols : Type 0 where
   pub numbers : (K b : ℕ) → (is_bank K b ≡ true) ↔ ((1 ≤ b) × (b ≤ banks_of K))
   pub degree : (K b : ℕ) → b < 2 ^ K → degree_of b ≡ how_many (has_symbol b) K
@@ -59,7 +60,7 @@ pub record TheSymbols : Type 0 where
 
 -- each: of the banks in a store, wherever they have room, those that pass a test can be set one after the other, to P bytes each, with no
 -- other byte changed: each holds what was given for the store as it stood when its turn came.
--- copies, steps: after the banks before it, a systematic bank is filled by a copy of its packet, and one of degree two or more by a step of
+-- copies, steps: after the banks before it, a systematic bank is filled by a copy of its packet, and a bank of more symbols by a step of
 -- running XOR, wherever they lie and whatever the store holds.
 -- sources: of a bank 2^i + r, with r from 1 on below 2^i, the step takes the cell of bank r, as it then stands, and packet i.
 -- holds: so banks that are filled hold what the code says; filling: as they are after `fill_group`.

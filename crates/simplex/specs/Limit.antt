@@ -9,6 +9,7 @@ abbrev pub reads_from : ℕ → List ℕ → List ℕ
 reads_from i [] = []
 reads_from i (c ∷ counts) = replicate c i ++ reads_from (suc i) counts
 
+-- [plan.request]
 abbrev pub reads_of : List ℕ → List ℕ
 reads_of counts = reads_from 0 counts
 
@@ -16,13 +17,13 @@ reads_of counts = reads_from 0 counts
 abbrev pub start : List ℕ → ℕ → ℕ
 start counts i = sum (take i counts)
 
--- Bank sets of a group of K symbols, one for each of the reads, of which no two share a bank. A set may have any size.
+-- Bank sets of a group of K symbols: disjoint, and as many as the reads. A set may have any size.
 pub record DisjointSets (K : ℕ) (reads : List ℕ) (sets : List Banks) : Type 0 where
   pub one_each : length sets ≡ length reads
   pub of_group : (j b : ℕ) → Contains (slice_index_or sets j []) b → (1 ≤ b) × (b ≤ banks_of K)
   pub disjoint : (i j b : ℕ) → i < j → Contains (slice_index_or sets i []) b → Contains (slice_index_or sets j []) b → ⊥
 
--- A set of banks fails a symbol: here is a content for which the XOR of what the code puts into them is not the symbol's packet.
+-- A set of banks fails a symbol: here is a content for which what they hold does not XOR to the symbol's packet.
 pub record Fails (K P : ℕ) (banks : Banks) (symbol : ℕ) : Type 0 where
   pub packets : List Packet
   pub content : Content K P packets
@@ -32,21 +33,22 @@ pub record Fails (K P : ℕ) (banks : Banks) (symbol : ℕ) : Type 0 where
 abbrev pub SomeFails : (K P : ℕ) → List ℕ → List Banks → Type 0
 SomeFails K P reads sets = (j : ℕ) × (j < length reads) × Fails K P (slice_index_or sets j []) (slice_index reads j)
 
--- THE LIMIT. Take any counts of one group that total more than 2^(K-1), and any bank sets of that group, one for each read: if no two share
--- a bank, some set does not yield its read's symbol, and the content for which it fails is shown. (A packet has at least one byte.)
+-- THE LIMIT. However the counts of a group are made up: once their total passes 2^(K-1), no disjoint bank sets, of whatever size, serve all
+-- reads. There is one whose set fails its symbol, with the content that shows it. (A packet has at least one byte.)
+-- [promise.limit]
 abbrev pub TheLimit : Type 0
 TheLimit =
     (K P : ℕ) (counts : List ℕ) (sets : List Banks) → 1 ≤ P → limit_of K < sum counts → DisjointSets K (reads_of counts) sets
     → SomeFails K P (reads_of counts) sets
 
--- The limit of a group's reads in any order, each given by its symbol.
+-- The limit of a group's reads in any order, each given by its symbol [promise.limit].
 abbrev pub LimitFor : (K P : ℕ) → List ℕ → Type 0
 LimitFor K P reads = (sets : List Banks) → limit_of K < length reads → DisjointSets K reads sets → SomeFails K P reads sets
 
 abbrev pub LimitOfReads : Type 0
 LimitOfReads = (K P : ℕ) (reads : List ℕ) → 1 ≤ P → LimitFor K P reads
 
--- The bank sets serve the reads: they are sets of the group, one for each read, no two share a bank, and each yields its read's symbol.
+-- The bank sets serve the reads: they are disjoint, of the group's banks, as many as the reads, and each yields its read's symbol.
 pub record ServedBy (K P : ℕ) (reads : List ℕ) (sets : List Banks) : Type 0 where
   pub apart : DisjointSets K reads sets
   pub yields : (j : ℕ) → j < length reads → Yields K P (slice_index_or sets j []) (slice_index reads j)

@@ -2,7 +2,7 @@
 use Rattle.std.specs.Prelude.{Bool, if◌then◌else◌, ℕ, zero, suc, ◌-◌, ◌^◌}
 use Rattle.bits.specs.Marks.{marked}
 
--- Whether bank b holds the symbol: that bit of its number is 1.
+-- Whether bank b holds the symbol: that bit of its number is 1 [bank.content].
 abbrev pub has_symbol : (b symbol : ℕ) → Bool
 has_symbol b symbol = marked b symbol
 

@@ -7,8 +7,8 @@ use Rattle.simplex.specs.Code.{Packet}
 use Rattle.simplex.specs.Symbols.{has_symbol}
 use Rattle.simplex.specs.Banks.{spaced, each_bank}
 
--- What a bank of the store that holds the symbol is set to: its cell XOR the old packet, which is the one in the symbol's systematic bank,
--- XOR the new one.
+-- What a bank of the store that holds the symbol is set to: the XOR of its cell, of the packet as the symbol's systematic bank has it, and
+-- of the new one [update.cells].
 abbrev pub bank_updated : (P symbol : ℕ) → Packet → (place : ℕ → ℕ) → (store : List ℕ) → (b : ℕ) → Packet
 bank_updated P symbol packet place store b =
     xor_bytes (cell store (place b) P) (xor_bytes (cell store (place (2 ^ symbol)) P) packet)

@@ -11,12 +11,12 @@ ghost use Rattle.simplex.specs.Filling.{packets_of, filled, running_step, Fillab
 ghost use Rattle.simplex.specs.Symbols.{highest_of};
 ghost use Rattle.simplex.specs.Updating.{symbol_updated, Updatable};
 
-// The bounds of K. A request vector has as many counts as the largest K has symbols.
+// The bounds of K. A request vector has as many counts as the largest K has symbols [shape.ranges].
 pub const LEAST_SYMBOLS: usize = 2;
 
 pub const MOST_SYMBOLS: usize = 5;
 
-// The most pairs of a plan: the limit at the largest K.
+// The most pairs of a plan: the limit at the largest K [plan.pairs].
 pub const MOST_PAIRS: usize = 1 << (MOST_SYMBOLS - 1);
 
 // What K fixes: the banks of a group, and the most reads that it serves in a cycle.
@@ -26,7 +26,7 @@ pub struct Group {
     pub limit: usize,
 }
 
-// The fixed table, by K from LEAST_SYMBOLS to MOST_SYMBOLS.
+// The fixed table, by K from LEAST_SYMBOLS to MOST_SYMBOLS [form.groups].
 const GROUPS: [Group; MOST_SYMBOLS - LEAST_SYMBOLS + 1] = [
     Group { banks: 3, limit: 2 },
     Group { banks: 7, limit: 4 },
@@ -48,7 +48,7 @@ pub fn group_of(k: usize) -> Group
     GROUPS[k - LEAST_SYMBOLS]
 }
 
-// The degree of a bank.
+// The degree of a bank [form.degree].
 pub fn degree(bank: usize) -> u32
     ensures { result ≡ degree_of bank }
 {
@@ -106,8 +106,8 @@ fn packet_of(packets: &[u8], p: usize, symbol: usize) -> &[u8]
     &packets[symbol * p..][..p]
 }
 
-// Sets one bank of degree two or more, in one row of `store`, by a step of running XOR. `packets` are the group's, at least up to that of
-// the bank's highest symbol: of one packet handed in, the promise could not say whose it is.
+// Sets one bank of several symbols, in one row of `store`, by a step of running XOR [write.steps]. `packets` are the group's, at
+// least up to that of the bank's highest symbol: of one packet handed in, the promise could not say whose it is.
 pub fn running_step(store: &mut [u8], banks: Spacing, packets: &[u8], p: usize, bank: usize)
     requires degree { 2 ≤ degree_of bank }
     requires packet { suc (highest_of bank) * p ≤ length packets.now }
@@ -121,7 +121,7 @@ pub fn running_step(store: &mut [u8], banks: Spacing, packets: &[u8], p: usize, 
 }
 
 // Fills one group's banks in one row of `store` from its `k` packets of `p` bytes: a bank of degree one by a copy of its packet, and every
-// other by a step of running XOR. They go in the order of their numbers, since the bank that a step comes from has a lower one.
+// other by a step of running XOR [write.steps]. They go in the order of their numbers, since the bank that a step comes from has a lower one.
 #[tactic(auto, using(crate::proofs::Running::degree_two))]
 pub fn fill_group(store: &mut [u8], banks: Spacing, packets: &[u8], p: usize, k: usize)
     requires { Fillable k p banks.at banks.step packets.now store.old }
@@ -138,7 +138,7 @@ pub fn fill_group(store: &mut [u8], banks: Spacing, packets: &[u8], p: usize, k:
     }
 }
 
-// Updates the packet of a symbol in one group's banks in one row of `store`. The systematic bank is the first that holds the symbol, and
+// Updates the packet of a symbol in one group's banks in one row of `store` [update.cells]. The systematic bank is the first that holds the symbol, and
 // is set last: the old packet is read there until then, and what the XOR leaves there is the new one. The loop goes upwards, because the
 // compiler finds no vector form of it downwards.
 pub fn update_symbol(store: &mut [u8], banks: Spacing, packet: &[u8], k: usize, symbol: usize)

@@ -131,7 +131,7 @@ pub set_up_range : (sh : Shape) → set_up_refusal sh ≡ Accepted → InRange s
 unfolding set_up_refusal
 set_up_range sh e = let fine : shape_refusal sh ≡ Accepted = search checks in range_words sh fine
 
--- so the total of banks, and the most reads of a group, are bytes
+-- so what it answers, how many banks there are and the limit, fits in bytes
 pub fits_set_up : (sh : Shape) (o : Outcome) → set_up_refusal sh ≡ Accepted → o ≡ set_up_of sh → Fits o.answer
 fits_set_up sh o e is =
     let w = set_up_range sh e in

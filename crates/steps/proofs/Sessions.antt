@@ -56,7 +56,7 @@ pub output_append : (session : Session) (store : List ℕ) (lines : List (List �
 unfolding lines_done
 output_append session store lines line others = rw (done_append session store lines (line ∷ others))
 
--- ---- each line gives one output line
+-- ---- a line of output for every line
 
 no_feed : (v : ℕ) → eqb (digit_of v) line_feed ≡ false
 no_feed v = go (ltb v 10)

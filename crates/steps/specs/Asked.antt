@@ -17,7 +17,8 @@ pub data Asked : Type 0 where
   asks_set_up : Shape → Asked
   asks_operation : (Shape → Operation) → Asked
 
--- What each frame asks. What a step does goes by this, and so does what a session remembers.
+-- What each frame asks. What a step does goes by this, and so does what a session remembers
+-- [frame.set-up], [frame.write], [frame.release], [frame.read].
 abbrev pub asked : Frame → Asked
 asked (frame.set_up shape) = asks_set_up shape
 asked (frame.write row packets) = asks_operation (λ shape. write row packets)

@@ -31,9 +31,9 @@ unserved session store first number = record { session = session; store = store;
 
 -- Which lines are refused, and how. seventeen: one that does not stand for bytes answers ff and 17. eighteen: one that does and is no
 -- frame, ff and 18.
--- nineteen_write, nineteen_release, nineteen_read: a 02, 03 or 04 before any accepted 01 answers 82, 83 or 84, and 19.
+-- nineteen_write, nineteen_release, nineteen_read: a 02, 03 or 04 where no 01 was accepted yet answers 82, 83 or 84, and 19.
 -- one_to_four: a 01 whose shape is refused answers 81, and the number of that refusal. twenty: one in range whose store does not fit, 81
--- and 20. Each keeps the session and the store.
+-- and 20. Each keeps the session and the store. Rule [session.order].
 pub record TheRefusedLines : Type 0 where
   pub seventeen : (session : Session) (store line : List ℕ) → (BytesLine line → ⊥)
       → line_done session store line ≡ unserved session store 0xff 17
@@ -52,7 +52,7 @@ pub record TheRefusedLines : Type 0 where
       → 16384 < shape.m * (2 ^ shape.k - 1) * shape.g * shape.p
       → line_done session store line ≡ unserved session store 0x81 20
 
--- What answers an operation that is refused after a history: its first byte, the number, and the place in two bytes, high first.
+-- What answers an operation that is refused after a history: its first byte, its number, and its place: how many 256s, and the rest.
 abbrev pub TellsRefusal : (first : ℕ) → Shape → History → Operation → (answer : List ℕ) → Type 0
 TellsRefusal first shape history operation answer =
     (number place : ℕ) → 1 ≤ number → number ≤ 20 → verdict_in shape history operation ≡ refused number place
@@ -70,7 +70,7 @@ pub record Comes (frame : Frame) (shape : Shape) (history : History) (lines : Li
   pub is : frame_in line ≡ frame
 
 -- What a 02, a 03 and a 04 answer, by the history: refused, with which number and place; a 02 or 03 that is accepted, how many rows are
--- full then. (A 04 that is served: `returned` of TheSession.)
+-- full then. (A 04 that is served: `returned` of TheSession.) Rule [session.answer].
 pub record TheAnswers : Type 0 where
   pub written : (lines : List (List ℕ)) (line : List ℕ) (shape : Shape) (history : History) (row : ℕ) (packets : List ℕ)
       → Comes (write row packets) shape history lines line
@@ -87,7 +87,8 @@ pub record TheAnswers : Type 0 where
 -- ended: the output line of every one, the last too, ends in a line feed.
 -- afresh: a 01 in range whose store fits 16,384 bytes.
 -- kept: after any lines, the session keeps what they asked of its memory.
--- returned: a 04 that comes then, if the operations since set-up let it be served, answers the packets last written, in the order asked.
+-- returned: a 04 that comes then, if the operations since set-up let it be served, answers the packets last written, in the list's order.
+-- Rules [session.lines], [session.memory], [promise.recall].
 pub record TheSession : Type 0 where
   pub next : (session : Session) (store text : List ℕ) → 0 < length text → let first = line_done session store (first_line text) in
       lines_done session store (lines_of text) ≡ and_then first (lines_done first.session first.store (lines_of (behind_line text)))

@@ -17,7 +17,7 @@ use Rattle.frames.specs.Printing.{refusal_said, said, printed}
 use Rattle.steps.specs.declared.TheConstants.{MOST_TEXT}
 use Rattle.steps.specs.Asked.{Asked, asks_nothing, asks_set_up, asks_operation, asked}
 
--- What a session has from line to line, beside its store: nothing, or the memory of the last accepted 01.
+-- What a session has from line to line, beside its store: nothing, or the memory of the last accepted 01 [session.memory].
 abbrev pub Session : Type 0
 Session = Option State
 
@@ -44,11 +44,12 @@ unless_refused (Err refusal) session store done = refused_with session store ref
 
 -- ---- a set-up
 
--- 1 to 4; then 20, its store passes 16,384 bytes.
+-- 1 to 4; then 20, its store has more than 16,384 bytes [session.store], [session.order].
 unfoldable pub set_up_refusal : Shape → Verdict
 set_up_refusal shape = shape_refusal shape then check 20 0 (nat_le (store_size shape) MOST_STORE)
 
--- A memory set up afresh, with a zeroed store, which answers what a set-up answers. Refused, the earlier memory is kept.
+-- The memory is a new one, its store is all zeros, and the answer is a set-up's. Refused, memory and store are those of before
+-- [session.memory], [session.store].
 abbrev pub set_up_done : Session → (store : List ℕ) → Shape → Done
 set_up_done session store shape =
     unless_refused (set_up_refusal shape) session store (record {
@@ -132,7 +133,7 @@ lines_done session store [] = record { session = session; store = store; output 
 lines_done session store (line ∷ lines) =
     let first = line_done session store line in and_then first (lines_done first.session first.store lines)
 
--- Of what text comes in, the first 32,768 bytes are read, and each line is answered.
+-- The lines that are read, of a text that is cut at 32,768 bytes, and what they all do [session.cut].
 abbrev pub text_read : List ℕ → List (List ℕ)
 text_read input = lines_of (take MOST_TEXT input)
 

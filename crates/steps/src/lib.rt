@@ -17,17 +17,17 @@ use lines::reader::Reader;
 use memory::State;
 use refusals::{Answer, Reason, Refusal, Verdict, check, refused};
 
-// The bytes that a session reads.
+// The bytes that a session reads [session.cut].
 pub const MOST_TEXT: usize = 32768;
 
 // The bytes of the schedule of as many reads as fit in a frame.
 const MOST_SCHEDULE: usize = MOST_FRAME / 3 * 2;
 
-// What a session has from line to line, beside its store: the memory of the last accepted 01, if there was one.
+// What a session has from line to line, beside its store: the memory of the last accepted 01, if there was one [session.memory].
 pub type Session = Option<State>;
 
-// What a line gives, or a text: the session, and how long its output is. A session goes into a step by value and comes back from it, since
-// the project's rules name this form for a state. The output stands in the caller's array, since no heap is asked for: the length says how
+// What a line gives, or a text: the session, and how long its output is. A session is handed by value to a step, which gives it back, as a
+// state is [form.state]. The output stands in the caller's array, since no heap is asked for: the length says how
 // much of the array it is, as `Prints` does.
 #[derive(Clone, Copy, Debug, PartialEq, Eq)]
 pub struct Reply {
@@ -187,7 +187,7 @@ fn try_frame(
     requires { FewReads (shown frame) }
     ensures { Tries session store.old out.old (shown frame.entry) result store.new out.new }
 {
-    // By kind, as the project's rules name this form; and by the memory, for 19.
+    // By kind [form.frame]; and by the memory, for 19.
     match (frame, session) {
         (Frame::SetUp(shape), _) => try_set_up(shape, store, out),
         (Frame::Write(row, packets), Some(state)) => Ok(do_write(state, row, packets, store, out)),
@@ -215,7 +215,8 @@ fn do_frame(
     }
 }
 
-// One step of a session: what a line does with the memory and the store, and the line that answers it, at the front of the output.
+// One step of a session: what a line does with the memory and the store, and the line that answers it, at the front of the output
+// [session.hex] to [session.order].
 #[tactic(auto, using(crate::proofs::Done::line_fits), unfolding(crate::specs::Session::line_done))]
 pub fn step(
     session: Session,

@@ -22,7 +22,7 @@ abbrev pub walk : List ℕ → ℕ → ℕ → ℕ
 walk counts at zero = at
 walk counts at (suc n) = walk counts (slice_index TRIE (at + slice_index counts (suc (suc n)))) n
 
--- The rows of K.
+-- The rows of K [form.table].
 abbrev pub rows_of : ℕ → List (List Pair)
 rows_of K = if K == 2 then ROWS_OF_2 else if K == 3 then ROWS_OF_3 else if K == 4 then ROWS_OF_4 else ROWS_OF_5
 

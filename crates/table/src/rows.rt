@@ -1,10 +1,10 @@
-// The stored rows and their trie. Written by tools/table.py; nothing rests on how they were found.
+// The stored rows and their trie [form.table]. Written by tools/table.py; nothing rests on how they were found.
 // Statics, because a constant array would be stored anew at each use; one for each K, so that a row has its pairs and no more. A trie of
 // indices, because it is constant data, without a heap.
 
 use audit::Pair;
 
-// The pairs of a row, as the rules write them.
+// The pairs of a row: (a, b), as a plan has them [plan.pair].
 macro_rules! row {
     ($(($a:literal, $b:literal))*) => { [$(Pair { a: $a, b: $b }),*] };
 }

@@ -1,4 +1,4 @@
--- An update: accepted, its row holds the edited generation, as a fresh write of its group would leave it.
+-- An update: accepted, its row holds the edited generation, as if its group had been written anew.
 use mathlib.Core.Path.{◌≡◌, refl, sym, ◌∙◌}
 use mathlib.Core.Bool.{true, cond}
 use mathlib.Core.List.{List}
