@@ -1,6 +1,6 @@
 -- What was read to the front of a text, which a session answers, and whether the input is longer.
-use Rattle.std.proofs.Common.{◌≡◌, ℕ, ◌+◌, ◌≤◌, ◌<◌, ◌↔◌, min, Bool, IsTrue, List, Option, None, Some, Result, Ok, Err, IfSome, IfOk, length, take, ap, ◌∙◌, subst, arith, length-append, length-take, take-take}
-use Rattle.std.specs.Io.KnownBytes.{Consumes}
+use Rattle.std.proofs.Common.{◌≡◌, ℕ, ◌+◌, ◌≤◌, ◌<◌, ◌↔◌, min, Bool, IsTrue, List, Option, None, Some, Result, Ok, Err, IfSome, IfOk, IfErr, length, take, ap, ◌∙◌, subst, arith, length-append, length-take, take-take}
+use Rattle.std.specs.Io.KnownBytes.{Consumes, Appends}
 use lib.ListN.{length-replicate}
 use Rattle.cells.specs.Xor.{zeros}
 use Rattle.lines.specs.Input.{Fills}
@@ -24,6 +24,18 @@ as_input P (Some input) text n read p =
     let same : take MOST_TEXT (take n text) ≡ take MOST_TEXT input =
     ap (take MOST_TEXT) (front_read input text n read).1 ∙ take-take MOST_TEXT MOST_TEXT input (omega arith) in
     subst (λ l. P (lines_done Fresh (zeros MOST_STORE) (lines_of l)).output) same p
+
+-- so all of it is written, where all that was read is
+pub all_written : (old new known : Option (List ℕ)) (text : List ℕ) (n : ℕ) → IfSome known (Fills (zeros MOST_TEXT) n text)
+    → Appends old new (lines_done Fresh (zeros MOST_STORE) (text_read (take n text))).output → IfSome known (λ input. Appends old new (session_of input))
+all_written old new known text n read w = as_input (λ (output : List ℕ). Appends old new output) known text n read w
+
+-- where as much was read as a session reads, the input has as much
+pub reached : {E : Type 0} (known : Option (List ℕ)) (text : List ℕ) (n : ℕ) (look : Result Bool E) → MOST_TEXT ≤ n
+    → IfSome known (Fills (zeros MOST_TEXT) n text) → IfSome known (λ input. IfErr look (λ e. MOST_TEXT ≤ length input))
+reached None text n look all read = tt
+reached (Some input) text n (Ok more) all read = tt
+reached (Some input) text n (Err e) all read = omega (arith, (front_read input text n read).0)
 
 -- where as much was read as a session reads, the input is longer exactly where something is left of it
 pub longer : {E : Type 0} (known left : Option (List ℕ)) (text : List ℕ) (n : ℕ) (look : Result Bool E) → MOST_TEXT ≤ n

@@ -2,7 +2,7 @@
 // and in order, and its answer is written.
 #![tactic(auto)]
 
-ghost use Rattle.std.specs.Prelude.{◌≡◌, ◌≢◌, ◌<◌, ◌↔◌, length, take, IsTrue, IfOk, IfErr, IfSome};
+ghost use Rattle.std.specs.Prelude.{◌≡◌, ◌≢◌, ◌≤◌, ◌<◌, ◌↔◌, length, take, IsTrue, IfOk, IfErr, IfSome};
 ghost use Rattle.std.specs.IoError.{error_kind};
 ghost use Rattle.steps.specs.Session.{text_read, session_of};
 ghost use Rattle.console.specs.Written.{Writes, Answered};
@@ -89,6 +89,8 @@ pub fn answer_all<R: Read + Drop, W: Write>(
     ensures cut { IfSome (R.remaining reader) (λ input.
         IfOk result (λ look. IfOk look (λ is_cut. IsTrue is_cut ↔ (MOST_TEXT < length input)))) }
     ensures uninterrupted { IfErr result (λ e. error_kind e ≢ ErrorKind.Interrupted) }
+    ensures whole { IfSome (R.remaining reader) (λ input.
+        IfOk result (λ look. IfErr look (λ e. MOST_TEXT ≤ length input))) }
     ensures looked { IfOk result (λ look. IfErr look (λ e. error_kind e ≢ ErrorKind.Interrupted)) }
 {
     // With room for any text, and a length: no heap is asked for.
