@@ -4,11 +4,15 @@ by its order, and each line that is no request by what is wrong with it; of the 
 read cycle by its list, the packets that were written and the rules.
 
     python3 tools/cases.py crates/cases/stdin --self-test < crates/cases/stdout
+
+Reads what was printed from standard input. Prints each line that is wrong, and how many there are. Exit status: 0, 1 where a line is wrong, or 2 where there is
+nothing to judge: the file cannot be read, or the output is empty, ends within a line, or has another number of lines than it is to have.
 """
-import argparse
 import re
 import sys
 from math import comb
+
+from tool import Arguments, Stop, run
 
 MOST_SYMBOLS = 5
 EVERY_K = range(2, MOST_SYMBOLS + 1)
@@ -359,44 +363,31 @@ def wrong_lines(parts, lines):
     return wrong
 
 
-def unusable(why):
-    print(f"cases.py: {why}", file=sys.stderr)
-    sys.exit(2)
-
-
 def main():
-    parser = argparse.ArgumentParser(
-        description="Judges what the program cases prints for a text of requests, by the rules alone: there is no planner in here. Reads what "
-        "was printed from standard input. Prints each line that is wrong, and how many there are.",
-        epilog="The exit status is 0 where all is right, 1 where a line is wrong, and 2 where there is nothing to judge: the file cannot be read, "
-        "or the output is empty, ends within a line, or has another number of lines than it is to have.",
-    )
-    parser.add_argument("requests", metavar="REQUESTS", help="the text that the program read: its standard input")
-    parser.add_argument("--self-test", action="store_true", help="the program was called with --self-test too")
-    asked = parser.parse_args()
-    try:
-        with open(asked.requests, "rb") as file:
-            texts, is_cut = lines_of(file.read())
-    except OSError as error:
-        unusable(f"{asked.requests}: {error.strerror}")
+    arguments = Arguments(__doc__)
+    arguments.add_argument("requests", metavar="REQUESTS", help="the text that the program read: its standard input")
+    arguments.add_argument("--self-test", action="store_true", help="the program was called with --self-test too")
+    asked = arguments.parse_args()
+    with open(asked.requests, "rb") as file:
+        texts, is_cut = lines_of(file.read())
     output = sys.stdin.buffer.read().decode("latin-1")
     if not output:
-        unusable("standard input is empty: it is to be what the program printed")
+        raise Stop("standard input is empty: it is to be what the program printed")
     *lines, rest = output.split("\n")
     if rest:
-        unusable("the output ends within a line")
+        raise Stop("the output ends within a line")
     answers = len(texts) + is_cut
     parts = [(answers, lambda lines: wrong_answers(texts, is_cut, lines))] + (self_test() if asked.self_test else [])
     due = sum(size for size, _ in parts)
     if len(lines) != due:
-        unusable(f"the output has {len(lines)} lines, and {due} are due: {answers} for the requests"
-                 + (f" and {due - answers} of the self-test" if asked.self_test else ", without a self-test"))
+        raise Stop(f"the output has {len(lines)} lines, and {due} are due: {answers} for the requests"
+                   + (f" and {due - answers} of the self-test" if asked.self_test else ", without a self-test"))
     wrong = wrong_lines(parts, lines)
     for line in wrong:
         print("wrong:", line)
     print(f"{len(lines)} lines, {len(wrong)} wrong")
-    sys.exit(bool(wrong))
+    return int(bool(wrong))
 
 
 if __name__ == "__main__":
-    main()
+    run(main)

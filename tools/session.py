@@ -3,9 +3,13 @@
 bank and no planner here: a memory is the packets that each full row was last given, and a read takes its packet from there.
 
     python3 tools/session.py < crates/session/stdin
+
+Reads the file from standard input, lines of hexadecimal, one frame a line, and prints a line for each. A file longer than 32,768 bytes is said to be so on standard
+error, and nothing behind these is answered. Exit status: 0, refusals or not, or 2 where it can't go on.
 """
-import argparse
 import sys
+
+from tool import Arguments, run as run_tool
 
 MOST_TEXT, MOST_LINE, MOST_STORE = 32768, 4096, 16384
 
@@ -107,11 +111,7 @@ def answers(text):
 
 
 def main():
-    argparse.ArgumentParser(
-        description="Answers a session file by the rules alone, as the program session does. Reads the file from standard input, lines of hexadecimal, "
-        "one frame a line, and prints a line for each. Of a file longer than 32768 bytes only these are read, which is said on standard error.",
-        epilog="The exit status is 0, refusals or not, and 2 where it is called with a word that it does not know.",
-    ).parse_args()
+    Arguments(__doc__).parse_args()
     text = sys.stdin.buffer.read()
     for reply in answers(text):
         print(reply)
@@ -120,4 +120,4 @@ def main():
 
 
 if __name__ == "__main__":
-    main()
+    run_tool(main)
