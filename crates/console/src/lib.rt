@@ -107,14 +107,15 @@ pub fn answer_all<R: Read + Drop, W: Write>(
 }
 
 // Answers what standard input has, on standard output: what `answer_all` promises, of this reader and this writer. Where the text was cut,
-// it says so on standard error, after the last answer; where it cannot know, since the look for one byte more fails, it ends with that
-// error. It has no clause, since none can say that the bytes which the reader gives are those that a terminal, a file or a pipe has sent,
-// or that those which the writer takes come out there.
+// it says so on standard error, after the last answer, if that takes the line; where it cannot know, since the look for one byte more
+// fails, it ends with that error. It has no clause, since none can say that the bytes which the reader gives are those that a terminal, a
+// file or a pipe has sent, or that those which the writer takes come out there.
 pub fn run(rt: &(impl Input + Print + Eprint)) -> io::Result<()> {
     if answer_all(rt.reader(), &mut io::writer(rt))?? {
-        eprintln!(rt;
+        // All is answered: where standard error does not take the line, the session has not failed.
+        let _ = eprintln!(rt;
             "The text is longer than {MOST_TEXT} bytes: nothing behind these was answered."
-        )?;
+        );
     }
     Ok(())
 }

@@ -4,7 +4,7 @@
 ghost use Rattle.std.specs.Prelude.{◌≡◌, ◌∷◌, ◌++◌, ◌+◌, ◌*◌, ◌≤◌, ◌<◌, length};
 ghost use Rattle.frames.specs.Bounds.{TheBounds};
 ghost use Rattle.frames.specs.Frame.{line_refusal, shown, set_up_frame, write_frame, release_frame, frame_of, first_byte};
-ghost use Rattle.frames.specs.Printing.{said, Fits, Prints};
+ghost use Rattle.frames.specs.Printing.{refusal_said, said, Fits, Prints};
 ghost use Rattle.frames.specs.Laws.{TheFrames};
 
 use layout::Shape;
@@ -141,9 +141,18 @@ fn print_both(front: &[u8], rest: &[u8], out: &mut [u8]) -> usize
     len + print_line(rest, &mut out[len..])
 }
 
+// Prints the answer that refuses a frame; `first` is the answer's first byte.
+#[tactic(auto, using(crate::proofs::Printing::high_byte))]
+pub fn print_refusal(first: u8, refusal: Refusal, out: &mut [u8; MOST_OUTPUT]) -> usize
+    requires { refusal.place < 65536 }
+    ensures { Prints (first ∷ refusal_said refusal) out.old result out.new }
+{
+    let [.., high, low] = refusal.place.to_be_bytes();
+    print_line(&[first, refusal.reason.number(), high, low], out)
+}
+
 // Prints the answer to a frame. The packets, which are read if it is of a cycle that is served, stand beside it, since an `Answer` has no
 // bytes [session.answer].
-#[tactic(auto, using(crate::proofs::Printing::high_byte))]
 pub fn print_answer(
     frame: Frame<'_>,
     answer: Result<Answer, Refusal>,
@@ -163,9 +172,6 @@ pub fn print_answer(
         }
         Ok(Answer::FullRows(rows)) => print_both(&[first, 0, rows as u8], packets, out),
         Ok(Answer::Served) => print_both(&[first, 0], packets, out),
-        Err(Refusal { reason, place }) => {
-            let [.., high, low] = place.to_be_bytes();
-            print_line(&[first, reason.number(), high, low], out)
-        }
+        Err(refusal) => print_refusal(first, refusal, out),
     }
 }

@@ -26,7 +26,7 @@ use Rattle.layout.proofs.Places.{inside, apart, offset_spaced, room}
 use Rattle.layout.specs.Name.{PacketOf}
 use Rattle.rows.specs.Rows.{packets_in, packet_in, group_written, packet_updated, edited}
 use Rattle.rows.specs.Laws.{Updated, Edited}
-use Rattle.rows.proofs.Writing.{packet_in_lem, packets_in_sized, all_banks}
+use Rattle.rows.proofs.Writing.{packet_in_lem, packets_in_sized}
 
 -- ---- the generation
 
@@ -125,7 +125,7 @@ module _ (sh : Shape) (row x i : ℕ) (packet s : List ℕ) (u : PacketOf sh (re
         let many = length_packets sh.p sh.k (cell generation (x * (sh.k * sh.p)) (sh.k * sh.p)) in
         rw (its_group sh generation x i packet u.group u.symbol bytes whole)
         (banks-updated.fresh sh.p (packets_in sh generation x) i packet place (banks sh) s (rw many u.symbol) systematic
-        (packets_in_sized sh generation x u.group whole) bytes its_room (λ b l h. cells b (of_row b l h)) (all_banks sh generation x))
+        (packets_in_sized sh generation x u.group whole) bytes its_room (λ b l h. cells b (of_row b l h)))
 
     -- a row that holds a generation holds the edited one
     pub row_edited : ((y b : ℕ) → CellOf sh y b row → cell_at sh s y b row ≡ bank_cell sh.p (packets_in sh generation y) b)
@@ -138,7 +138,7 @@ module _ (sh : Shape) (row x i : ℕ) (packet s : List ℕ) (u : PacketOf sh (re
         go : Dec (y ≡ x) → cell_at sh after y b row ≡ bank_cell sh.p (packets_in sh new y) b
         go (yes e) =
             rw e (ap (λ (t : List ℕ). cell_at sh t x b row) (fresh (cells x))
-            ∙ (filled_holds sh.p (packets_in sh new x) place (packets_in_sized sh new x u.group len) (banks sh) s (all_banks sh new x) its_room).banks b c.first c.last refl)
+            ∙ (filled_holds sh.p (packets_in sh new x) place (packets_in_sized sh new x u.group len) (banks sh) s its_room).banks b c.first c.last refl)
         go (no n) =
             rw (other_groups sh generation x i packet u.group u.symbol bytes whole y c.group n)
             (cells_kept y b row c (λ e. n e.0) ∙ cells y b c)

@@ -11,7 +11,7 @@ use Rattle.cells.specs.Cell.{cell}
 use Rattle.cells.specs.Xor.{xor_bytes}
 use Rattle.cells.proofs.Cells.{length_cell, get_or_cell, cell_cell}
 use Rattle.cells.proofs.Steps.{step_within}
-use Rattle.simplex.specs.Shape.{banks_of, degree_of}
+use Rattle.simplex.specs.Shape.{degree_of}
 use Rattle.simplex.specs.Symbols.{highest_of, without_highest}
 use Rattle.simplex.specs.Code.{Packet, Sized, bank_cell}
 use Rattle.simplex.specs.Banks.{spaced, BanksSet}
@@ -76,10 +76,6 @@ module _ (sh : Shape) where
 
 -- ---- the groups
 
--- a group's packets are those of all its banks
-pub all_banks : (sh : Shape) (generation : List ℕ) (x : ℕ) → banks sh ≤ banks_of (length (packets_in sh generation x))
-all_banks sh generation x = rw (length_packets sh.p sh.k (cell generation (x * (sh.k * sh.p)) (sh.k * sh.p))) (le_refl (banks sh))
-
 -- filled with its banks a row of cells apart
 pub group_spaced : (sh : Shape) (x row : ℕ) (packets : List Packet) (s after : List ℕ)
     → after ≡ filled sh.p packets (spaced (offset sh x 1 row) (sh.g * sh.p)) (banks sh) s → after ≡ group_written sh x row packets s
@@ -112,7 +108,7 @@ module _ (sh : Shape) (row : ℕ) (generation s : List ℕ) where
     unfolding groups_written
     group_holds n h =
         filled_holds sh.p (packets_in sh generation n) (λ b. offset sh n b row) (packets_in_sized sh generation n h whole) (banks sh) (after n)
-        (all_banks sh generation n) (room sh n row (length (after n)) h in-shape (after_size n))
+        (room sh n row (length (after n)) h in-shape (after_size n))
 
     -- group n leaves the cells of other groups and other rows as they were
     group_keeps : (n : ℕ) → n < sh.m → (x b r : ℕ) → CellOf sh x b r → ((x ≡ n) × (r ≡ row) → ⊥)

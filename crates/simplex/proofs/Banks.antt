@@ -6,6 +6,7 @@ use native.Mathlib.Nat.{le_of_suc-le-suc, le_of_eq, div-one, not-suc-le-zero, po
 use native.Mathlib.Omega.{arith}
 use lib.Bits.{bit_xor}
 use lib.ListN.{length, get_or, length-replicate}
+use Rattle.std.proofs.lemmas.List.{get_or_default}
 use Rattle.cells.specs.Xor.{xor_bytes, zeros, xor_all}
 use Rattle.bits.proofs.Digits.{digit, low_lt, xor_half, xor_low}
 use Rattle.cells.proofs.Xors.{assoc, left_comm, cancel, zeros_right, same_bytes, length_xor}
@@ -74,16 +75,19 @@ cell_zero : (P : ℕ) (packets : List Packet) → bank_cell P packets 0 ≡ zero
 cell_zero P [] = refl
 cell_zero P (p ∷ packets) = cell_cons P p packets 0 ∙ cell_zero P packets
 
--- a systematic bank holds its packet
-pub cell_one : (P : ℕ) (packets : List Packet) (i : ℕ) → i < length packets → Sized P packets → bank_cell P packets (2 ^ i) ≡ get_or packets i []
-cell_one P [] i l h = absurd (not-suc-le-zero l)
-cell_one P (p ∷ packets) zero l h =
+-- a systematic bank holds its packet, and zeros where there is none
+pub cell_power : (P : ℕ) (packets : List Packet) (i : ℕ) → Sized P packets → bank_cell P packets (2 ^ i) ≡ get_or packets i (zeros P)
+cell_power P [] i h = refl
+cell_power P (p ∷ packets) zero h =
     cell_cons P p packets 1 ∙ ap (xor_bytes p) (cell_zero P packets ∙ ap zeros (sym h.0)) ∙ zeros_right p
-cell_one P (p ∷ packets) (suc i) l h =
+cell_power P (p ∷ packets) (suc i) h =
     let low : 2 ^ suc i % 2 ≡ 0 = omega (arith, pow-suc 2 i) in
     let half : 2 ^ suc i / 2 ≡ 2 ^ i = omega (arith, pow-suc 2 i) in
     cell_cons P p packets (2 ^ suc i) ∙ ap₂ (λ (d n : ℕ). xor_if d p (bank_cell P packets n)) low half
-    ∙ cell_one P packets i (le_of_suc-le-suc l) h.1
+    ∙ cell_power P packets i h.1
+
+pub cell_one : (P : ℕ) (packets : List Packet) (i : ℕ) → i < length packets → Sized P packets → bank_cell P packets (2 ^ i) ≡ get_or packets i []
+cell_one P packets i l h = cell_power P packets i h ∙ get_or_default packets i (zeros P) [] l
 
 -- ---- decoding
 

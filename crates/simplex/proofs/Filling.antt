@@ -4,22 +4,23 @@ use mathlib.Core.Logic.{⊎_elim}
 use mathlib.Core.Bool.{true}
 use mathlib.Core.List.{List, []}
 use Prim.Native.Nat.{ℕ, zero, suc, ◌+◌, ◌-◌, ◌*◌, ◌^◌, ◌≤◌, ◌<◌}
-use native.Mathlib.Nat.{le_of_suc-le-suc, le_refl, suc-mul, zero-mul, not-suc-le-zero, mul-le-mul_right}
+use native.Mathlib.Nat.{le_of_suc-le-suc, suc-mul, zero-mul, not-suc-le-zero, mul-le-mul_right}
 use native.Mathlib.Omega.{arith}
 use borrow.Author.Tests.{eq-eqb, ne_eqb}
 use lib.ListN.{length, get_or, take, drop, length-drop}
 use lib.Pow.{pow_pos}
 use lib.Seq.{length-take-le, drop-drop}
+use Rattle.std.proofs.lemmas.List.{get_or_default}
 use Rattle.cells.specs.Cell.{cell, put}
-use Rattle.cells.specs.Xor.{xor_bytes}
+use Rattle.cells.specs.Xor.{xor_bytes, zeros}
 use Rattle.simplex.specs.Shape.{banks_of, degree_of}
 use Rattle.simplex.specs.Symbols.{highest_of, without_highest}
 use Rattle.simplex.specs.Code.{Packet, Sized, bank_cell}
 use Rattle.simplex.specs.Banks.{spaced, Room, each_bank, BanksSet}
 use Rattle.simplex.specs.Filling.{packets_of, running_xor, running_step, bank_filled, filled, Fillable}
-use Rattle.simplex.proofs.Banks.{cell_one, length_bank}
+use Rattle.simplex.proofs.Banks.{cell_power, length_bank}
 use Rattle.simplex.proofs.Setting.{fewer, each_more, each_same, each_set, spaced_room}
-use Rattle.simplex.proofs.Running.{kind, systematic, some_rest, lower, symbol_below, bank_top, two_below, systematic_bank, highest_one, highest_more}
+use Rattle.simplex.proofs.Running.{kind, systematic, some_rest, lower, symbol_below, bank_highest, two_below, systematic_bank, highest_one, highest_more}
 
 -- ---- the packets of a list of bytes
 
@@ -47,7 +48,7 @@ packet_at p (suc k) bytes (suc i) h =
 
 module _ (P : ℕ) (packets : List Packet) where
   abbrev top : ℕ → Packet
-  top b = get_or packets (highest_of b) []
+  top b = get_or packets (highest_of b) (zeros P)
 
   copy_filled : (place : ℕ → ℕ) (now : List ℕ) (b : ℕ) → degree_of b ≡ 1 → bank_filled P packets place now b ≡ top b
   copy_filled place now b one = rw (eq-eqb (degree_of b) 1 one) refl
@@ -87,16 +88,15 @@ module _ (P : ℕ) (packets : List Packet) where
 
     module _ (sized : Sized P packets) where
       -- a bank is filled with what the code says, where the one that a step comes from holds what the code says
-      code_bank : (now : List ℕ) (b : ℕ) → 1 ≤ b → b ≤ banks_of (length packets)
+      code_bank : (now : List ℕ) (b : ℕ) → 1 ≤ b
           → (2 ≤ degree_of b → cell now (place (without_highest b)) P ≡ bank_cell P packets (without_highest b))
           → bank_filled P packets place now b ≡ bank_cell P packets b
-      code_bank now b some most source =
-          let symbol = symbol_below b some (length packets) most in
+      code_bank now b some source =
           ⊎_elim
           (λ (one : degree_of b ≡ 1).
-          copy_filled place now b one ∙ sym (cell_one P packets (highest_of b) symbol sized) ∙ ap (bank_cell P packets) (systematic b some one))
+          copy_filled place now b one ∙ sym (cell_power P packets (highest_of b) sized) ∙ ap (bank_cell P packets) (systematic b some one))
           (λ (two : 2 ≤ degree_of b).
-          step_filled place now b two ∙ ap (λ (c : Packet). xor_bytes c (top b)) (source two) ∙ bank_top b some P packets symbol sized)
+          step_filled place now b two ∙ ap (λ (c : Packet). xor_bytes c (top b)) (source two) ∙ bank_highest b some P packets sized)
           (kind b some)
 
       abbrev cells : ℕ → List ℕ → List ℕ
@@ -106,19 +106,19 @@ module _ (P : ℕ) (packets : List Packet) where
       cells_set n s room = each_set (λ b. true) (λ now. bank_cell P packets) place P n s (λ b l u on now len. length_bank P packets b sized) room
 
       -- so banks 1 to n are
-      pub filled_cells : (n : ℕ) (s : List ℕ) → n ≤ banks_of (length packets) → Room P place n (length s) → filled P packets place n s ≡ cells n s
+      pub filled_cells : (n : ℕ) (s : List ℕ) → Room P place n (length s) → filled P packets place n s ≡ cells n s
       unfolding each_bank
-      filled_cells zero s most room = refl
-      filled_cells (suc n) s most room =
+      filled_cells zero s room = refl
+      filled_cells (suc n) s room =
           let fewer = fewer n (omega arith) room in
-          rw (filled_cells n s (omega arith) fewer)
+          rw (filled_cells n s fewer)
           (ap (put (cells n s) (place (suc n)))
-          (code_bank (cells n s) (suc n) (omega arith) most
+          (code_bank (cells n s) (suc n) (omega arith)
           (λ two. let source = lower (suc n) two in (cells_set n s fewer).banks (without_highest (suc n)) source.0 (omega (arith, source.1)) refl)))
 
-      pub filled_holds : (n : ℕ) (s : List ℕ) → n ≤ banks_of (length packets) → Room P place n (length s)
+      pub filled_holds : (n : ℕ) (s : List ℕ) → Room P place n (length s)
           → BanksSet P (λ b. true) (bank_cell P packets) place n s (filled P packets place n s)
-      filled_holds n s most room = rw (filled_cells n s most room) (cells_set n s room)
+      filled_holds n s room = rw (filled_cells n s room) (cells_set n s room)
 
 -- ---- the filling of a group, bank by bank, from K packets of P bytes
 
@@ -127,8 +127,10 @@ module _ (K P : ℕ) (packets : List ℕ) where
   group = packets_of P K packets
 
   -- the packet of a bank's highest symbol
-  highest_packet : (b : ℕ) → 1 ≤ b → b ≤ banks_of K → get_or group (highest_of b) [] ≡ cell packets (highest_of b * P) P
-  highest_packet b some most = packet_at P K packets (highest_of b) (symbol_below b some K most)
+  highest_packet : (b : ℕ) → 1 ≤ b → b ≤ banks_of K → get_or group (highest_of b) (zeros P) ≡ cell packets (highest_of b * P) P
+  highest_packet b some most =
+      let symbol = symbol_below b some K most in
+      get_or_default group (highest_of b) (zeros P) [] (rw (length_packets P K packets) symbol) ∙ packet_at P K packets (highest_of b) symbol
 
   pub packet_there : K * P ≤ length packets → (b : ℕ) → 1 ≤ b → b ≤ banks_of K → suc (highest_of b) * P ≤ length packets
   packet_there fits b some most =
@@ -175,4 +177,4 @@ pub filling_holds : (K P at step : ℕ) (packets store : List ℕ) → Fillable 
     (filled P (packets_of P K packets) (spaced at step) (banks_of K) store)
 filling_holds K P at step packets store f =
     filled_holds P (packets_of P K packets) (spaced at step) (fillable_sized K P at step packets store f) (banks_of K) store
-    (rw (length_packets P K packets) (le_refl (banks_of K))) (fillable_room K P at step packets store f)
+    (fillable_room K P at step packets store f)

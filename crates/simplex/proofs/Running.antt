@@ -13,16 +13,17 @@ use lib.Count.{ones_cat, ones-ones}
 use lib.Dec.{eqb}
 use lib.ListN.{length, get_or}
 use lib.Pow.{pow_pos, pow_mono}
+use Rattle.std.proofs.lemmas.List.{get_or_default}
 use Rattle.std.proofs.lemmas.Nat.{leading_top, ones_le_self, zero_from_ones}
 use Rattle.std.proofs.lemmas.Nat.Bits.{bit_at_above}
 use Rattle.bits.specs.Bits.{bit}
 use Rattle.bits.proofs.Bits.{below_power, bit_top, bit_other}
 use Rattle.bits.proofs.Sets.{lt_none}
-use Rattle.cells.specs.Xor.{xor_bytes}
+use Rattle.cells.specs.Xor.{xor_bytes, zeros}
 use Rattle.simplex.specs.Shape.{banks_of, degree_of}
 use Rattle.simplex.specs.Symbols.{has_symbol, last_of, highest_of, without_highest}
 use Rattle.simplex.specs.Code.{Packet, Sized, bank_cell}
-use Rattle.simplex.proofs.Banks.{linear, cell_one}
+use Rattle.simplex.proofs.Banks.{linear, cell_power}
 
 -- ---- the highest symbol
 
@@ -86,12 +87,17 @@ module _ (b : ℕ) (some : 1 ≤ b) where
         ap (λ (d : ℕ). eqb d 1) (sym (bit_other (without_highest b) (highest_of b) i low other) ∙ ap (λ (n : ℕ). bit n i) sum),
   )
 
-  -- what the code puts into it
+  -- what the code puts into it; a symbol with no packet adds nothing
+  pub bank_highest : (P : ℕ) (packets : List Packet) → Sized P packets
+      → xor_bytes (bank_cell P packets (without_highest b)) (get_or packets (highest_of b) (zeros P)) ≡ bank_cell P packets b
+  bank_highest P packets s =
+      ap (xor_bytes (bank_cell P packets (without_highest b))) (sym (cell_power P packets (highest_of b) s))
+      ∙ linear P packets (without_highest b) (2 ^ highest_of b) s ∙ ap (bank_cell P packets) top
+
   pub bank_top : (P : ℕ) (packets : List Packet) → highest_of b < length packets → Sized P packets
       → xor_bytes (bank_cell P packets (without_highest b)) (get_or packets (highest_of b) []) ≡ bank_cell P packets b
   bank_top P packets l s =
-      ap (xor_bytes (bank_cell P packets (without_highest b))) (sym (cell_one P packets (highest_of b) l s))
-      ∙ linear P packets (without_highest b) (2 ^ highest_of b) s ∙ ap (bank_cell P packets) top
+      ap (xor_bytes (bank_cell P packets (without_highest b))) (get_or_default packets (highest_of b) [] (zeros P) l) ∙ bank_highest P packets s
 
 -- a bank of degree two or more has a rest, and one of degree one is systematic: its number is a power of two
 pub some_rest : (b : ℕ) → 2 ≤ degree_of b → (1 ≤ b) × (1 ≤ without_highest b)

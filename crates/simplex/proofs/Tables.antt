@@ -20,7 +20,7 @@ and_right false b t = absurd t
 -- ---- the fixed table
 
 pub limit_most : (K : ℕ) → K ≤ MOST_SYMBOLS → limit_of K ≤ MOST_PAIRS
-limit_most K h = pow_mono {i = K - 1} {j = MOST_SYMBOLS - 1} (omega arith)
+limit_most K h = let up : limit_of K ≤ limit_of MOST_SYMBOLS = pow_mono {i = K - 1} {j = MOST_SYMBOLS - 1} (omega arith) in omega (arith, up)
 
 pub banks_of_lem : (K : ℕ) {row : Group} → row ≡ group_of K → row.banks ≡ banks_of K
 banks_of_lem K e = ap (λ (g : Group). g.banks) e

@@ -7,7 +7,7 @@ use Prim.Native.Nat.{ℕ, zero, suc, ◌+◌, ◌-◌, ◌/◌, ◌%◌, ◌^◌
 use native.Mathlib.Nat.{le_of_suc-le-suc, le_of_eq, le_refl, div-one, not-suc-le-zero}
 use native.Mathlib.Omega.{arith}
 use borrow.Author.Tests.{eq-eqb}
-use lib.ListN.{length, get_or, set, length-set}
+use lib.ListN.{length, get_or, set}
 use lib.Pow.{pow_pos}
 use Rattle.bits.specs.Bits.{bit}
 use Rattle.bits.specs.Marks.{how_many}
@@ -187,8 +187,8 @@ module _ (P : ℕ) (packets : List Packet) (i : ℕ) (packet : Packet) (place : 
           (ap₂ (λ (c d : Packet). xor_bytes c (xor_bytes d packet)) (cells b l u) old_there ∙ comm (bank_cell P packets b) (xor_bytes old packet))
       go false e = let none : bit b i ≡ 0 = bit_mark b i ∙ rw e in rw none (cells b l u)
 
-  pub fresh : n ≤ banks_of (length packets) → symbol_updated P i packet place n s ≡ filled P (set packets i packet) place n s
-  fresh most =
+  pub fresh : symbol_updated P i packet place n s ≡ filled P (set packets i packet) place n s
+  fresh =
       each_agrees P (λ b. has_symbol b i) (bank_updated P i packet place s) (bank_cell P (set packets i packet)) place n s
       (λ b. length_bank P (set packets i packet) b edited_sized) room each
-      ∙ sym (filled_cells P (set packets i packet) place edited_sized n s (rw (length-set packets i packet) most) room)
+      ∙ sym (filled_cells P (set packets i packet) place edited_sized n s room)

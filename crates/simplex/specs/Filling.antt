@@ -1,7 +1,7 @@
 -- A group's banks filled from its packets, in one row of a store.
 use Rattle.std.specs.Prelude.{◌≡◌, ◌==◌, true, if◌then◌else◌, List, [], ◌∷◌, ℕ, zero, suc, ◌+◌, ◌*◌, ◌≤◌, length, slice_index_or, take, drop}
 use Rattle.cells.specs.Cell.{cell, put}
-use Rattle.cells.specs.Xor.{xor_bytes}
+use Rattle.cells.specs.Xor.{xor_bytes, zeros}
 use Rattle.simplex.specs.Shape.{SymbolsInRange, banks_of, degree_of}
 use Rattle.simplex.specs.Code.{Packet}
 use Rattle.simplex.specs.Symbols.{highest_of, without_highest}
@@ -23,10 +23,10 @@ running_step P packets place b store =
     put store (place b) (running_xor P (cell packets (highest_of b * P) P) place store b)
 
 -- What bank b is filled with, for a group of these packets: a bank of degree one with a copy of its packet, and every other with what a
--- step of running XOR gives [write.steps].
+-- step of running XOR gives [write.steps]. A symbol past the last packet counts as one whose packet is zeros.
 abbrev pub bank_filled : (P : ℕ) → List Packet → (place : ℕ → ℕ) → (store : List ℕ) → (b : ℕ) → Packet
 bank_filled P packets place store b =
-    let packet = slice_index_or packets (highest_of b) [] in
+    let packet = slice_index_or packets (highest_of b) (zeros P) in
     if degree_of b == 1 then packet else running_xor P packet place store b
 
 -- The store with banks 1 to n filled so, one after the other.

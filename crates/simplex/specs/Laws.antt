@@ -4,6 +4,7 @@ use Rattle.std.specs.Int.Bits.{bit_xor}
 use Rattle.bits.specs.Marks.{how_many}
 use Rattle.cells.specs.Cell.{cell, put}
 use Rattle.cells.specs.Xor.{xor_bytes}
+use Rattle.simplex.specs.declared.TheConstants.{MOST_SYMBOLS, MOST_PAIRS}
 use Rattle.simplex.specs.Shape.{banks_of, is_bank, limit_of, degree_of}
 use Rattle.simplex.specs.Code.{Packet, Sized, Content, Banks, bank_cell, xor_of_numbers, Yields}
 use Rattle.simplex.specs.Limit.{Fails}
@@ -12,12 +13,14 @@ use Rattle.simplex.specs.Banks.{spaced, Room, each_bank, BanksSet}
 use Rattle.simplex.specs.Filling.{packets_of, filled, running_step, Fillable}
 use Rattle.simplex.specs.Updating.{bank_updated, symbol_updated}
 
--- The fixed table: for each K, how many banks a group has, and its limit [shape.groups].
+-- The fixed table: for each K, how many banks a group has, and its limit [shape.groups]. pairs: the most pairs of a plan are the limit at
+-- the largest K, and so sixteen [plan.pairs].
 pub record TheFixedTable : Type 0 where
   pub two : (banks_of 2 ≡ 3) × (limit_of 2 ≡ 2)
   pub three : (banks_of 3 ≡ 7) × (limit_of 3 ≡ 4)
   pub four : (banks_of 4 ≡ 15) × (limit_of 4 ≡ 8)
   pub five : (banks_of 5 ≡ 31) × (limit_of 5 ≡ 16)
+  pub pairs : (MOST_PAIRS ≡ limit_of MOST_SYMBOLS) × (MOST_PAIRS ≡ 16)
 
 -- linear: the XOR of the cells of banks a and b is the cell of a XOR b.
 -- two: if a XOR b = 2^i, the two cells XOR to packet i. alone: the systematic bank 2^i (customers say: a single bank) holds packet i.
@@ -82,7 +85,7 @@ pub record TheBanks : Type 0 where
       put before (place (2 ^ i + r)) (xor_bytes (cell before (place r) P) (cell packets (i * P) P))
       ≡ filled P (packets_of P K packets) place (2 ^ i + r) store
   pub holds : (P : ℕ) (packets : List Packet) (place : ℕ → ℕ) (n : ℕ) (store : List ℕ) → Sized P packets
-      → n ≤ banks_of (length packets) → Room P place n (length store)
+      → Room P place n (length store)
       → BanksSet P (λ b. true) (bank_cell P packets) place n store (filled P packets place n store)
   pub filling : (K P at step : ℕ) (packets store : List ℕ) → Fillable K P at step packets store
       → BanksSet P (λ b. true) (bank_cell P (packets_of P K packets)) (spaced at step) (banks_of K) store
@@ -91,7 +94,6 @@ pub record TheBanks : Type 0 where
       → Room P place n (length store)
       → BanksSet P (λ b. has_symbol b i) (bank_updated P i packet place store) place n store (symbol_updated P i packet place n store)
   pub fresh : (P : ℕ) (packets : List Packet) (i : ℕ) (packet : Packet) (place : ℕ → ℕ) (n : ℕ) (store : List ℕ)
-      → i < length packets → 2 ^ i ≤ n → n ≤ banks_of (length packets) → Sized P packets → length packet ≡ P
-      → Room P place n (length store)
+      → i < length packets → 2 ^ i ≤ n → Sized P packets → length packet ≡ P → Room P place n (length store)
       → ((b : ℕ) → 1 ≤ b → b ≤ n → cell store (place b) P ≡ bank_cell P packets b)
       → symbol_updated P i packet place n store ≡ filled P (set packets i packet) place n store

@@ -1,13 +1,13 @@
 // The code of a group of K symbols: its shape, its limit, the filling of its banks, and the update of a symbol's packet in them.
 #![tactic(auto)]
 
-ghost use Rattle.std.specs.Prelude.{◌≡◌, suc, ◌+◌, ◌*◌, ◌^◌, ◌≤◌, ◌<◌, length};
-ghost use Rattle.cells.specs.Cell.{cell};
+ghost use Rattle.std.specs.Prelude.{◌≡◌, ℕ, List, suc, ◌+◌, ◌-◌, ◌*◌, ◌^◌, ◌≤◌, ◌<◌, length};
+ghost use Rattle.cells.specs.Cell.{cell, put};
 ghost use Rattle.simplex.specs.Shape.{SymbolsInRange, banks_of, group_of, degree_of};
 ghost use Rattle.simplex.specs.Limit.{TheLimit, LimitOfReads, LimitMet};
 ghost use Rattle.simplex.specs.Laws.{TheFixedTable, TheCode, TheSymbols, TheBanks};
 ghost use Rattle.simplex.specs.Banks.{spaced};
-ghost use Rattle.simplex.specs.Filling.{packets_of, filled, running_step, Fillable};
+ghost use Rattle.simplex.specs.Filling.{packets_of, running_xor, filled, running_step, Fillable};
 ghost use Rattle.simplex.specs.Symbols.{highest_of};
 ghost use Rattle.simplex.specs.Updating.{symbol_updated, Updatable};
 
@@ -106,6 +106,28 @@ fn packet_of(packets: &[u8], p: usize, symbol: usize) -> &[u8]
     &packets[symbol * p..][..p]
 }
 
+// A step of running XOR [write.steps] for a bank of several symbols, of which this is the highest, from that symbol's packet. Apart from
+// `running_step`, since what is the same for all banks of a symbol is then worked out once, and the bank's place from the one before it.
+fn symbol_step(
+    store: &mut [u8],
+    banks: Spacing,
+    packet: &[u8],
+    symbol: usize,
+    bank: usize,
+    at: usize,
+)
+    requires degree { 2 ≤ degree_of bank }
+    requires highest { symbol ≡ highest_of bank }
+    requires place { at ≡ spaced banks.at banks.step bank }
+    requires room { (length packet.now ≤ banks.step) × (at + length packet.now ≤ length store.old) }
+    ensures { let place = spaced banks.at banks.step in
+        store.new ≡ put store.old (place bank)
+        (running_xor (length packet.now) packet.now place store.old bank) }
+{
+    let from = banks.place_of(bank - (1 << symbol));
+    cells::xor_from(store, at, from, packet);
+}
+
 // Sets one bank of several symbols, in one row of `store`, by a step of running XOR [write.steps]. `packets` are the group's, at
 // least up to that of the bank's highest symbol: of one packet handed in, the promise could not say whose it is.
 pub fn running_step(store: &mut [u8], banks: Spacing, packets: &[u8], p: usize, bank: usize)
@@ -115,32 +137,69 @@ pub fn running_step(store: &mut [u8], banks: Spacing, packets: &[u8], p: usize, 
     ensures { store.new ≡ running_step p packets.now (spaced banks.at banks.step) bank store.old }
 {
     let highest = highest_of(bank);
-    let from = banks.place_of(bank - (1 << highest));
     let at = banks.place_of(bank);
-    cells::xor_from(store, at, from, packet_of(packets, p, highest));
+    symbol_step(
+        store,
+        banks,
+        packet_of(packets, p, highest),
+        highest,
+        bank,
+        at,
+    );
+}
+
+// Fills the banks of which this is the highest symbol, where those of the symbols below it are filled: first the one of degree one, by a
+// copy, and then each that holds other symbols too, by a step. The first lies at `first_at`; gives where the bank after the last would lie:
+// places go on by adding, since with products a write of packets of one byte takes a seventh more instructions. The clause `store` speaks
+// of every group that this is the packet of, and of any store that its filling began from.
+fn fill_symbol(
+    store: &mut [u8],
+    banks: Spacing,
+    first_at: usize,
+    packet: &[u8],
+    symbol: usize,
+) -> usize
+    requires symbol { symbol < MOST_SYMBOLS }
+    requires place { first_at ≡ spaced banks.at banks.step (2 ^ symbol) }
+    requires room { (length packet.now ≤ banks.step) × (banks.step ≤ length store.old)
+        × (spaced banks.at banks.step (2 ^ suc symbol - 1) + length packet.now ≤ length store.old) }
+    ensures next { result ≡ spaced banks.at banks.step (2 ^ suc symbol) }
+    ensures store { (K : ℕ) (packets begun : List ℕ) → symbol < K
+        → packet.now ≡ cell packets (symbol * length packet.now) (length packet.now)
+        → store.old ≡ filled (length packet.now) (packets_of (length packet.now) K packets)
+        (spaced banks.at banks.step) (2 ^ symbol - 1) begun
+        → store.new ≡ filled (length packet.now) (packets_of (length packet.now) K packets)
+        (spaced banks.at banks.step) (2 ^ suc symbol - 1) begun }
+{
+    let first = 1 << symbol;
+    // The degree tells a copy from a step. That it does is proved, and not asked of each bank: a write of small packets would take longer.
+    prove!(degree(first) == 1);
+    cells::copy_into(store, first_at, packet);
+    let mut at = first_at + banks.step;
+    for bank in first + 1..2 * first {
+        prove!(degree(bank) > 1);
+        symbol_step(store, banks, packet, symbol, bank, at);
+        at += banks.step;
+    }
+    at
 }
 
 // Fills one group's banks in one row of `store` from its `k` packets of `p` bytes: a bank of degree one by a copy of its packet, and every
 // other by a step of running XOR [write.steps]. They go in the order of their numbers, since the bank that a step comes from has a lower one.
-#[tactic(auto, using(crate::proofs::Running::degree_two))]
 pub fn fill_group(store: &mut [u8], banks: Spacing, packets: &[u8], p: usize, k: usize)
     requires { Fillable k p banks.at banks.step packets.now store.old }
     ensures { store.new ≡ filled p (packets_of p k packets.now)
         (spaced banks.at banks.step) (banks_of k) store.old }
 {
-    for bank in 1..=group_of(k).banks {
-        if degree(bank) == 1 {
-            let packet = packet_of(packets, p, highest_of(bank));
-            cells::copy_into(store, banks.place_of(bank), packet);
-        } else {
-            running_step(store, banks, packets, p, bank);
-        }
+    let mut at = banks.at;
+    for symbol in 0..k {
+        at = fill_symbol(store, banks, at, packet_of(packets, p, symbol), symbol);
     }
 }
 
-// Updates the packet of a symbol in one group's banks in one row of `store` [update.cells]. The systematic bank is the first that holds the symbol, and
-// is set last: the old packet is read there until then, and what the XOR leaves there is the new one. The loop goes upwards, because the
-// compiler finds no vector form of it downwards.
+// Updates the packet of a symbol in one group's banks in one row of `store` [update.cells]. The systematic bank is the first that holds the
+// symbol, and is set last: the old packet is read there until then, and what the XOR leaves there is the new one. The loop goes upwards,
+// because the compiler finds no vector form of it downwards.
 pub fn update_symbol(store: &mut [u8], banks: Spacing, packet: &[u8], k: usize, symbol: usize)
     requires { Updatable k (length packet.now) symbol banks.at banks.step store.old }
     ensures { store.new ≡ symbol_updated (length packet.now) symbol packet.now

@@ -55,7 +55,7 @@ near_zero number test = near_check number 0 test (omega arith)
 
 ruleset near = (near_zero, near_check, near_then, near_first)
 
-near_place : (v : Verdict) (r : Refusal) → Near v → v ≡ Err r → r.place < 65536
+pub near_place : (v : Verdict) (r : Refusal) → Near v → v ≡ Err r → r.place < 65536
 near_place v r n e = rw e at n
 
 -- of a line, and of a set-up

@@ -4,7 +4,7 @@
 ghost use Rattle.std.specs.Prelude.{◌≡◌, List, ◌∷◌, ℕ, ◌*◌, ◌≤◌, ◌<◌, min, length};
 ghost use Rattle.lines.specs.Reader.{left_of};
 ghost use Rattle.frames.specs.Frame.{set_up, write, release, read, shown, first_byte};
-ghost use Rattle.frames.specs.Printing.{said, Fits, Prints};
+ghost use Rattle.frames.specs.Printing.{refusal_said, said, Fits, Prints};
 ghost use Rattle.steps.specs.Session.{Session, Running, set_up_refusal, frame_done, line_done};
 ghost use Rattle.steps.specs.Laws.{TheRefusedLines, TheAnswers, TheSession};
 ghost use Rattle.steps.specs.Steps.{Gives, Answers};
@@ -67,6 +67,17 @@ fn answer(
         Prints bytes out.old result.len out.new }
 {
     let len = frames::print_answer(frame, answer, packets, out);
+    Reply { session, len }
+}
+
+// Prints the answer that refuses a frame; `first` is the answer's first byte. The session goes on as given. Apart from `answer`, since to
+// pass its frame and `Result` by value takes a refused line half as many instructions again.
+fn refuse(session: Session, first: u8, refusal: Refusal, out: &mut [u8; MOST_OUTPUT]) -> Reply
+    requires { refusal.place < 65536 }
+    ensures session { result.session ≡ session }
+    ensures line { Prints (first ∷ refusal_said refusal) out.old result.len out.new }
+{
+    let len = frames::print_refusal(first, refusal, out);
     Reply { session, len }
 }
 
@@ -211,7 +222,7 @@ fn do_frame(
 {
     match try_frame(session, frame, store, out) {
         Ok(done) => done,
-        Err(refusal) => answer(session, frame, Err(refusal), &[], out),
+        Err(refusal) => refuse(session, frame.first_byte(), refusal, out),
     }
 }
 
@@ -233,7 +244,7 @@ pub fn step(
             let frame = frames::frame_of(&bytes[..line.len() / 2]);
             do_frame(session, frame, store, out)
         }
-        Err(refusal) => answer(session, Frame::Unknown, Err(refusal), &[], out),
+        Err(refusal) => refuse(session, Frame::Unknown.first_byte(), refusal, out),
     }
 }
 

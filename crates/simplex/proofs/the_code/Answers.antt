@@ -15,7 +15,7 @@ use Rattle.simplex.proofs.Parity.{odd_banks_lem}
 use Rattle.simplex.proofs.the_code.Goals as goal
 
 pub returns-clause-table : goal.returns-clause-table
-returns-clause-table c = record { two = (refl, refl); three = (refl, refl); four = (refl, refl); five = (refl, refl) }
+returns-clause-table c = record { two = (refl, refl); three = (refl, refl); four = (refl, refl); five = (refl, refl); pairs = (refl, refl) }
 
 pub returns-clause-code : goal.returns-clause-code
 returns-clause-code c = record {
@@ -50,6 +50,5 @@ returns-clause-banks c = record {
   holds = λ P packets place n store sized. filled_holds P packets place sized n store;
   filling = filling_holds;
   updated = updated;
-  fresh = λ P packets i packet place n store symbol systematic most sized size room cells.
-      fresh P packets i packet place n store symbol systematic sized size room cells most;
+  fresh = fresh;
 }
